@@ -1,0 +1,10 @@
+pub mod Test
+pub mod All
+pub mod Ring
+pub mod Absolute
+pub mod Remainder
+pub mod Congruence
+pub mod Sum
+pub mod List
+pub mod Powers
+pub mod Signed

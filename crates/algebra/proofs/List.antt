@@ -1,0 +1,40 @@
+-- Lists as loops fill them, from the front, one store a turn. Over any element.
+-- Assumes nothing.
+use mathlib.Core.Path.{_≡_, refl, sym, ap, _∙_}
+use mathlib.Core.List.{List, [], _∷_, _++_, map, map-append}
+use Prim.Native.Nat.{ℕ, zero, suc, _+_, _-_, _≤_, _<_}
+use native.Mathlib.Numerals.{add-one}
+use native.Mathlib.Omega.{arith}
+use lib.ListN.{length, getD, take, drop, set, replicate}
+use lib.Seq.{take-suc, take-suc-set, take-all, getD-append-add}
+
+module _ {ℓ} {A : Type ℓ} where
+  -- an element behind the seam of two lists
+  pub getD-after : (p q : List A) (i : ℕ) (d : A) → length p ≤ i → getD (p ++ q) i d ≡ getD q (i - length p) d
+  getD-after p q i d h =
+      let e : i ≡ length p + (i - length p) = omega arith in
+      ap (λ (k : ℕ). getD (p ++ q) k d) e ∙ getD-append-add p q (i - length p) d
+
+  -- a store at t, where the first t elements are l
+  pub grow : (w : List A) (t : ℕ) (r : A) (l : List A) → t < length w → take t w ≡ l → take (t + 1) (set w t r) ≡ l ++ (r ∷ [])
+  grow w t r l h e = rw (add-one, take-suc-set, e)
+
+  -- a store that copies element t of a list
+  pub copy-more : (w l : List A) (t : ℕ) (r d : A) → t < length w → t < length l → take t w ≡ take t l → r ≡ getD l t d
+      → take (t + 1) (set w t r) ≡ take (t + 1) l
+  copy-more w l t r d h k e f =
+      grow w t r (take t l) h e ∙ ap (λ (x : A). take t l ++ (x ∷ [])) f ∙ sym (ap (λ (n : ℕ). take n l) (add-one t) ∙ take-suc l t d k)
+
+-- a loop that writes f of each element of one list into another
+module _ {A B : Type 0} (f : A → B) (js : List A) where
+  -- the first i places are done
+  abbrev pub Mapped : List B → ℕ → Type 0
+  Mapped out i = take i out ≡ map f (take i js)
+
+  pub mapped-more : (out : List B) (i : ℕ) {v : B} (d : A) → i < length out → i < length js → Mapped out i → v ≡ f (getD js i d) → Mapped (set out i v) (i + 1)
+  mapped-more out i {v} d h l e g =
+      rw (add-one, take-suc-set out i v, take-suc js i d, map-append)
+      (ap (λ (s : List B). s ++ (v ∷ [])) e ∙ ap (λ (x : B). map f (take i js) ++ (x ∷ [])) g)
+
+  pub mapped-all : (out : List B) (i : ℕ) → length out ≤ i → length js ≤ i → Mapped out i → out ≡ map f js
+  mapped-all out i h l e = sym (take-all i out h) ∙ e ∙ ap (λ (s : List A). map f s) (take-all i js l)

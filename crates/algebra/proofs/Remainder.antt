@@ -1,0 +1,45 @@
+-- Remainders of natural numbers: of products, of powers, and of a place that goes round a table.
+-- Assumes nothing.
+use mathlib.Core.Path.{_≡_, refl, sym, ap, _∙_}
+use Prim.Native.Nat.{ℕ, zero, suc, _+_, _-_, _*_, _/_, _%_, _^_, _<_, _≤_}
+use native.Mathlib.Nat.{mod-lt, mod-eq-of-lt, mod-eq-sub-mod, mul-add-mod-self-right, div-add-mod', mul-comm, mul-assoc, add-mul, suc-mul, zero-mul, one-mul, le-of-lt, mul-le-mul-left, mul-lt-mul-of-pos-right, lt-of-le-of-lt}
+use native.Mathlib.Omega.{arith}
+use lib.Pow.{pow-add}
+
+swap-last : (a b c : ℕ) → a * b * c ≡ a * c * b
+swap-last a b c = rw (mul-assoc a b c, mul-comm b c, ← mul-assoc a c b)
+
+-- a factor may be reduced first
+pub mod-mul-left : (a b q : ℕ) → a % q * b % q ≡ a * b % q
+mod-mul-left a b q =
+    sym
+    (ap (λ (x : ℕ). x * b % q) (sym (div-add-mod' a q))
+    ∙ ap (λ (x : ℕ). x % q) (add-mul (a / q * q) (a % q) b ∙ ap (λ (x : ℕ). x + a % q * b) (swap-last (a / q) q b))
+    ∙ mul-add-mod-self-right (a / q * b) q (a % q * b))
+
+pub mod-mul-right : (a b q : ℕ) → a * (b % q) % q ≡ a * b % q
+mod-mul-right a b q = rw (mul-comm a (b % q), mod-mul-left, mul-comm b a)
+
+pub product-below : {a b m n : ℕ} → a < m → b < n → a * b < m * n
+product-below {a} {b} {m} {n} h l = lt-of-le-of-lt (mul-le-mul-left a (le-of-lt l)) (mul-lt-mul-of-pos-right h (omega arith))
+
+pub mod-below-pred : (n q : ℕ) → 0 < q → n % q ≤ q - 1
+mod-below-pred n q h = omega (arith, mod-lt n h)
+
+-- a sum of two numbers below n goes round at most once
+pub round-none : {n : ℕ} (s : ℕ) → s < n → s ≡ s % n
+round-none s h = sym (mod-eq-of-lt h)
+
+pub round-once : {n : ℕ} (s : ℕ) → n ≤ s → s < n + n → s - n ≡ s % n
+round-once {n} s h l = sym (mod-eq-sub-mod h ∙ mod-eq-of-lt (omega arith))
+
+-- where the n-th power is 1, a power goes by its exponent modulo n
+module _ (g q n : ℕ) (one : g ^ n % q ≡ 1 % q) where
+  pow-rounds : (d r : ℕ) → g ^ (d * n + r) % q ≡ g ^ r % q
+  pow-rounds zero r = ap (λ (x : ℕ). g ^ x % q) (omega (arith, zero-mul n))
+  pow-rounds (suc d) r =
+      let e : suc d * n + r ≡ n + (d * n + r) = omega (arith, suc-mul d n) in
+      rw (e, pow-add g n (d * n + r), ← mod-mul-left (g ^ n) (g ^ (d * n + r)) q, one, mod-mul-left 1 (g ^ (d * n + r)) q, one-mul) (pow-rounds d r)
+
+  pub pow-round : (m : ℕ) → g ^ (m % n) % q ≡ g ^ m % q
+  pow-round m = sym (pow-rounds (m / n) (m % n)) ∙ ap (λ (x : ℕ). g ^ x % q) (div-add-mod' m n)

@@ -1,0 +1,4 @@
+pub mod All
+pub mod Choice
+pub mod Integer
+pub mod Powers

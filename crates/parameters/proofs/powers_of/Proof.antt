@@ -1,0 +1,81 @@
+-- `powers_of` meets its contract: each arm's table passes the test of its set.
+-- Assumes nothing.
+use mathlib.Core.Path.{_≡_, refl}
+use native.Mathlib.Omega.{arith}
+use borrow.Author.Needs.{needs}
+use Rattle.parameters.specs.Sets.{sets, setOf}
+use Rattle.parameters.proofs.Tables.{arm}
+use Rattle.parameters.proofs.powers_of.Statement.{statement}
+use Rattle.parameters.proofs.powers_of.Tie as tie
+
+slice-aggregate-at-front : tie.Need-slice-aggregate-at-front
+slice-aggregate-at-front c = search needs
+
+at-front-requires : tie.Need-at-front-requires
+at-front-requires c κs = search needs
+
+slice-aggregate-at-front-2 : tie.Need-slice-aggregate-at-front-2
+slice-aggregate-at-front-2 c = search needs
+
+at-front-requires-2 : tie.Need-at-front-requires-2
+at-front-requires-2 c κs = search needs
+
+slice-aggregate-at-front-3 : tie.Need-slice-aggregate-at-front-3
+slice-aggregate-at-front-3 c = search needs
+
+at-front-requires-3 : tie.Need-at-front-requires-3
+at-front-requires-3 c κs = search needs
+
+slice-aggregate-at-front-4 : tie.Need-slice-aggregate-at-front-4
+slice-aggregate-at-front-4 c = search needs
+
+at-front-requires-4 : tie.Need-at-front-requires-4
+at-front-requires-4 c κs = search needs
+
+slice-aggregate-at-front-5 : tie.Need-slice-aggregate-at-front-5
+slice-aggregate-at-front-5 c = search needs
+
+at-front-requires-5 : tie.Need-at-front-requires-5
+at-front-requires-5 c κs = search needs
+
+returns : tie.Need-returns
+unfolding sets setOf
+returns c = arm 0 (c .before .before .match .keys1) _ _ refl tt tt (c .at-front .ensures)
+
+returns-2 : tie.Need-returns-2
+unfolding sets setOf
+returns-2 c = arm 1 (c .before .before .match .keys2) _ _ refl tt tt (c .at-front2 .ensures)
+
+returns-3 : tie.Need-returns-3
+unfolding sets setOf
+returns-3 c = arm 2 (c .before .before .match .keys3) _ _ refl tt tt (c .at-front3 .ensures)
+
+returns-4 : tie.Need-returns-4
+unfolding sets setOf
+returns-4 c = arm 3 (c .before .before .match .keys4) _ _ refl tt tt (c .at-front4 .ensures)
+
+returns-5 : tie.Need-returns-5
+unfolding sets setOf
+returns-5 c =
+    let e : c .before .before .before .args .set ≡ 4 = omega arith in
+    arm 4 e _ _ refl tt tt (c .at-front5 .ensures)
+
+pub powers-of-spec : {M : Type 1} → statement M
+powers-of-spec =
+    tie.close
+    (tie.spec
+    slice-aggregate-at-front
+    at-front-requires
+    slice-aggregate-at-front-2
+    at-front-requires-2
+    slice-aggregate-at-front-3
+    at-front-requires-3
+    slice-aggregate-at-front-4
+    at-front-requires-4
+    slice-aggregate-at-front-5
+    at-front-requires-5
+    returns
+    returns-2
+    returns-3
+    returns-4
+    returns-5)
