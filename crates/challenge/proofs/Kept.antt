@@ -1,0 +1,188 @@
+-- The drawer's loop: its marks, its challenge and its count stand for the indices kept. One law for each way that a value can go,
+-- and one for the stop after b indices.
+-- Assumes nothing.
+use mathlib.Core.Path.{_≡_, refl, sym, ap, _∙_}
+use mathlib.Core.Bool.{Bool, true, false, _||_, or-false, or-true}
+use mathlib.Core.Logic.{_⊎_, inl, inr, ⊎-elim}
+use mathlib.Core.List.{List, [], _∷_, _++_}
+use Prim.Native.Nat.{ℕ, zero, suc, _+_, _-_, _*_, _/_, _%_, _^_, _≤_, _<_}
+use native.Mathlib.Nat.{add-zero, zero-add, add-suc, zero-mul, mod-lt, div-mul-le-self}
+use native.Mathlib.Numerals.{add-one}
+use native.Mathlib.Omega.{arith}
+use borrow.Author.Tests.{eqb-true, eqb-false, le-leb, lt-leb}
+use lib.Dec.{leb, eqb}
+use lib.IntN.{ℤ, pos, natAbs}
+use lib.ListN.{length, getD, set, take, replicate, length-append, length-set, length-replicate, getD-replicate}
+use lib.Seq.{getD-set-same, getD-set-other, take-set-lt}
+use mir.Syntax.{w8}
+use mir.Val.{toZ, ofZ}
+use mir.Facts.{toZ-ofZ}
+use Rattle.algebra.specs.Choice.{pick}
+use Rattle.algebra.proofs.Test.{pick-by, by-test}
+use Rattle.algebra.proofs.Signed.{fits-signed}
+use Rattle.parameters.specs.declared.Params.{Params}
+use Rattle.challenge.specs.Draw.{signAt, valueAt, taken, offered, kept, signed, placed, valueCount, draw, drawnChallenge}
+
+pick-same : {A : Type 0} (t : Bool) (a : A) → pick t a a ≡ a
+pick-same true a = refl
+pick-same false a = refl
+
+-- what becomes of a value v
+module _ (p : Params) (v : ℕ) (js : List ℕ) where
+  offered-full : p .b ≤ length js → offered p v js ≡ js
+  unfolding offered
+  offered-full h = rw (le-leb (p .b) (length js))
+
+  offered-above : p .n * (65536 / p .n) ≤ v → offered p v js ≡ js
+  unfolding offered
+  offered-above h = rw (le-leb (p .n * (65536 / p .n)) v) (pick-same (leb (p .b) (length js)) js)
+
+  offered-taken : taken (v % p .n) js ≡ true → offered p v js ≡ js
+  unfolding offered
+  offered-taken e =
+      rw (e, pick-same (leb (p .n * (65536 / p .n)) v) js) (pick-same (leb (p .b) (length js)) js)
+
+  offered-kept : length js < p .b → v < p .n * (65536 / p .n) → taken (v % p .n) js ≡ false → offered p v js ≡ js ++ (v % p .n ∷ [])
+  unfolding offered
+  offered-kept h l e = rw (lt-leb (p .b) (length js), lt-leb (p .n * (65536 / p .n)) v, e)
+
+-- once b indices are kept, further values change nothing
+kept-full : (p : Params) (bytes : List ℕ) (m d : ℕ) → p .b ≤ length (kept p bytes m) → kept p bytes (m + d) ≡ kept p bytes m
+unfolding kept
+kept-full p bytes m zero h = ap (kept p bytes) (add-zero m)
+kept-full p bytes m (suc d) h =
+    let e = kept-full p bytes m d h in
+    ap (kept p bytes) (add-suc m d) ∙ ap (offered p (valueAt bytes (m + d))) e ∙ offered-full p (valueAt bytes (m + d)) (kept p bytes m) h
+
+-- n values, where the first m keep b indices or are all of them
+kept-rest : (p : Params) (bytes : List ℕ) (m n : ℕ) → m ≤ n → (p .b ≤ length (kept p bytes m)) ⊎ (n ≤ m) → kept p bytes n ≡ kept p bytes m
+kept-rest p bytes m n h =
+    ⊎-elim
+    (λ (l : p .b ≤ length (kept p bytes m)).
+    let e : n ≡ m + (n - m) = omega arith in
+    ap (kept p bytes) e ∙ kept-full p bytes m (n - m) l)
+    (λ (l : n ≤ m). ap (kept p bytes) (omega arith))
+
+-- a sign is 1 or -1, so it fits a signed byte
+
+pub sign-abs : (bytes : List ℕ) (i : ℕ) → natAbs (signAt bytes i) ≡ 1
+unfolding signAt
+sign-abs bytes i = pick-by (λ (z : ℤ). natAbs z ≡ 1) (eqb (getD bytes (i / 8) 0 / 2 ^ (i % 8) % 2) 0) (λ e. refl) (λ e. refl)
+
+pub sign-stored : (bytes : List ℕ) (i : ℕ) {r : ℤ} → r ≡ signAt bytes i → toZ w8 (ofZ w8 r) ≡ signAt bytes i
+sign-stored bytes i e = rw e (toZ-ofZ (fits-signed w8 (signAt bytes i) (rw (sign-abs bytes i) (omega arith))))
+
+-- one index more, in the marks and in the challenge
+
+pub taken-more : (k j : ℕ) (js : List ℕ) → taken k (js ++ (j ∷ [])) ≡ taken k js || eqb k j
+taken-more k j [] = or-false (eqb k j)
+taken-more k j (i ∷ js) = by-test (eqb k i) (λ e. rw e) (λ e. rw e (taken-more k j js))
+
+marks-more : (marks : List Bool) (k j : ℕ) (js : List ℕ) → j < length marks → getD marks k false ≡ taken k js
+    → getD (set marks j true) k false ≡ taken k (js ++ (j ∷ []))
+marks-more marks k j js h e =
+    rw (taken-more k j js)
+    (by-test (eqb k j)
+    (λ t. rw (t, eqb-true k j t, or-true) (getD-set-same marks j true false h))
+    (λ t. rw (t, or-false) (getD-set-other marks j k true false (eqb-false k j t) ∙ e)))
+
+signed-more : (bytes : List ℕ) (i j : ℕ) (js : List ℕ) (c : List ℤ)
+    → signed bytes i (js ++ (j ∷ [])) c ≡ set (signed bytes i js c) j (signAt bytes (i + length js))
+signed-more bytes i j [] c = rw (add-zero i)
+signed-more bytes i j (k ∷ js) c =
+    signed-more bytes (suc i) j js (set c k (signAt bytes i))
+    ∙ ap (λ (s : ℕ). set (signed bytes (suc i) js (set c k (signAt bytes i))) j (signAt bytes s)) (omega arith)
+
+pub placed-more : (p : Params) (bytes : List ℕ) (j : ℕ) (js : List ℕ)
+    → placed p bytes (js ++ (j ∷ [])) ≡ set (placed p bytes js) j (signAt bytes (length js))
+unfolding placed
+placed-more p bytes j js = signed-more bytes 0 j js (replicate (p .n) (pos 0)) ∙ rw zero-add
+
+take-replicate : {A : Type 0} (n m : ℕ) (a : A) → n ≤ m → take n (replicate m a) ≡ replicate n a
+take-replicate zero m a h = refl
+take-replicate (suc n) zero a h = absurd (omega arith)
+take-replicate {A} (suc n) (suc m) a h = ap (λ (l : List A). a ∷ l) (take-replicate n m a (omega arith))
+
+-- the bound of the values that are not skipped fits a word, and each index has a place
+
+pub limit-small : (n : ℕ) → n * (65536 / n) ≤ 65536
+limit-small n = omega (arith, div-mul-le-self 65536 n)
+
+pub index-small : (v : ℕ) {n : ℕ} → 0 < n → n ≤ 1153 → v % n < 1153
+index-small v h l = omega (arith, mod-lt v h)
+
+-- the index of a value that is not skipped is one of the N, whatever N is
+pub index-below : (v n : ℕ) → v < n * (65536 / n) → v % n < n
+index-below v zero h = absurd (omega (arith, zero-mul (65536 / 0)))
+index-below v (suc n) h = mod-lt v (omega arith)
+
+-- the loop's locals after the first m values
+pub record Held (p : Params) (bytes : List ℕ) (m : ℕ) (marks : List Bool) (challenge : List ℤ) (count : ℕ) : Type 0 where
+  pub marks-size : length marks ≡ 1153
+  pub size : length challenge ≡ 1153
+  pub counted : count ≡ length (kept p bytes m)
+  pub marked : (k : ℕ) → k < p .n → getD marks k false ≡ taken k (kept p bytes m)
+  pub front : take (p .n) challenge ≡ placed p bytes (kept p bytes m)
+
+-- before the first value
+pub held-none : (p : Params) (bytes : List ℕ) → p .n ≤ 1153 → Held p bytes 0 (replicate 1153 false) (replicate 1153 (pos 0)) 0
+unfolding kept placed
+held-none p bytes h = record {
+  marks-size = length-replicate 1153 false;
+  size = length-replicate 1153 (pos 0);
+  counted = refl;
+  marked = λ k l. getD-replicate 1153 k false false (omega arith);
+  front = take-replicate (p .n) 1153 (pos 0) h;
+}
+
+module _ (p : Params) (bytes : List ℕ) {m : ℕ} {marks : List Bool} {challenge : List ℤ} {count : ℕ} (s : Held p bytes m marks challenge count) where
+  -- the loop ends where b indices are kept or no value is left
+  pub held-all : m ≤ valueCount bytes → (p .b ≤ count) ⊎ (valueCount bytes ≤ m)
+      → drawnChallenge p (record { complete = eqb count (p .b); challenge = challenge }) ≡ draw p bytes
+  unfolding draw
+  held-all h left =
+      rw (
+        kept-rest p bytes m (valueCount bytes) h (⊎-elim (λ (q : p .b ≤ count). inl (omega (arith, s .counted))) inr left),
+        s .front,
+        s .counted,
+      )
+
+  module _ (v : ℕ) (e : v ≡ valueAt bytes m) where
+    kept-next : kept p bytes (m + 1) ≡ offered p v (kept p bytes m)
+    unfolding kept
+    kept-next = ap (kept p bytes) (add-one m) ∙ ap (λ (x : ℕ). offered p x (kept p bytes m)) (sym e)
+
+    -- the value is skipped, so nothing changes
+    held-skipped : offered p v (kept p bytes m) ≡ kept p bytes m → Held p bytes (m + 1) marks challenge count
+    held-skipped o =
+        let same : kept p bytes (m + 1) ≡ kept p bytes m = kept-next ∙ o in
+        record {
+          marks-size = s .marks-size;
+          size = s .size;
+          counted = rw same (s .counted);
+          marked = λ k l. rw same (s .marked k l);
+          front = rw same (s .front);
+        }
+
+    pub held-above : p .n * (65536 / p .n) ≤ v → Held p bytes (m + 1) marks challenge count
+    held-above h = held-skipped (offered-above p v (kept p bytes m) h)
+
+    pub held-taken : v < p .n * (65536 / p .n) → getD marks (v % p .n) false ≡ true → Held p bytes (m + 1) marks challenge count
+    held-taken h t = held-skipped (offered-taken p v (kept p bytes m) (sym (s .marked (v % p .n) (index-below v (p .n) h)) ∙ t))
+
+    -- the value's index is kept
+    pub held-more : {sign : ℤ} → p .n ≤ 1153 → count < p .b → v < p .n * (65536 / p .n) → getD marks (v % p .n) false ≡ false
+        → sign ≡ signAt bytes count → Held p bytes (m + 1) (set marks (v % p .n) true) (set challenge (v % p .n) sign) (count + 1)
+    held-more {sign} fits h l free g =
+        let j = v % p .n in
+        let below : v % p .n < p .n = index-below v (p .n) l in
+        let js = kept p bytes m in
+        let more : kept p bytes (m + 1) ≡ js ++ (j ∷ []) =
+        kept-next ∙ offered-kept p v js (omega (arith, s .counted)) l (sym (s .marked j below) ∙ free) in
+        record {
+          marks-size = length-set marks j true ∙ s .marks-size;
+          size = length-set challenge j sign ∙ s .size;
+          counted = rw (more, length-append) (omega (arith, s .counted));
+          marked = λ k b. rw more (marks-more marks k j js (omega (arith, s .marks-size)) (s .marked k b));
+          front = rw (more, placed-more p bytes j js, take-set-lt (p .n) challenge j sign below, g, s .front, s .counted);
+        }

@@ -1,0 +1,103 @@
+-- `challenge::draw::draw_from` meets its contract. After m values the marks, the challenge and the count stand for the indices kept.
+-- Assumes nothing.
+use mathlib.Core.Logic.{inl, inr, ⊎-elim}
+use Prim.Native.Nat.{_≤_, _-_}
+use native.Mathlib.Omega.{arith}
+use borrow.Author.Needs.{needs}
+use borrow.Author.Tests.{ltb-true, ltb-false, not-true, not-false}
+use Rattle.challenge.specs.Draw.{valueCount}
+use Rattle.challenge.proofs.Kept.{Held, held-none, held-above, held-taken, held-more, held-all, sign-stored, limit-small, index-small}
+use Rattle.challenge.proofs.draw.draw_from.Statement.{statement}
+use Rattle.challenge.proofs.draw.draw_from.Tie as tie
+
+abbrev Inv-loop : tie.InvT-loop
+Inv-loop p pool limit values marks₀ challenge₀ count₀ m₀ marks challenge count m = (m ≤ valueCount pool) × Held p pool m marks challenge count
+
+abbrev μ-loop : tie.MeasureT-loop
+μ-loop p pool limit values marks₀ challenge₀ count₀ m₀ marks challenge count m = values - m
+
+div-limit : tie.Need-div-limit Inv-loop μ-loop
+div-limit c = search needs
+
+mul-limit : tie.Need-mul-limit Inv-loop μ-loop
+mul-limit c = omega (arith, limit-small (c .before .before .before .args .p .n))
+
+sub-values : tie.Need-sub-values Inv-loop μ-loop
+sub-values c = search needs
+
+loop-holds : tie.Need-loop-holds Inv-loop μ-loop
+loop-holds c = let s = c .before .before .before in (omega arith, held-none (s .args .p) (s .args .pool .now) (s .pre .0 .size))
+
+value-at-requires : tie.Need-value-at-requires Inv-loop μ-loop
+value-at-requires c κs = omega arith
+
+rem-index : tie.Need-rem-index Inv-loop μ-loop
+rem-index c = omega arith
+
+array-read-if3 : tie.Need-array-read-if3 Inv-loop μ-loop
+array-read-if3 c = index-small _ (omega arith) (omega arith)
+
+array-write-marks : tie.Need-array-write-marks Inv-loop μ-loop
+array-write-marks c = index-small _ (omega arith) (omega arith)
+
+sign-at-requires : tie.Need-sign-at-requires Inv-loop μ-loop
+sign-at-requires c κs = omega (arith, ltb-true)
+
+array-set-from-challenge : tie.Need-array-set-from-challenge Inv-loop μ-loop
+array-set-from-challenge c = index-small _ (omega arith) (omega arith)
+
+add-count : tie.Need-add-count Inv-loop μ-loop
+add-count c = omega (arith, ltb-true)
+
+add-m : tie.Need-add-m Inv-loop μ-loop
+add-m c = omega arith
+
+loop-less : tie.Need-loop-less Inv-loop μ-loop
+loop-less c = omega arith
+
+loop-again : tie.Need-loop-again Inv-loop μ-loop
+loop-again c =
+    let s = c .before .before .before .before .before .before .before .before .before in
+    let p = s .args .p in
+    let bytes = s .args .pool .now in
+    let l = c .before .before .before .before .before .loop in
+    let v = c .before .value-at in
+    let h = l .inv .1 in (
+      omega arith,
+      ⊎-elim
+          (λ w. rw (w .4, w .5, w .6)
+          (held-more p bytes h (v .result) (v .ensures) (omega arith) (omega (arith, ltb-true)) (w .0 .taken) (not-true _ (w .2 .taken))
+          (sign-stored bytes (l .count) (w .3 .ensures))))
+          (⊎-elim
+          (λ w. rw (w .3, w .4, w .5) (held-taken p bytes h (v .result) (v .ensures) (w .0 .taken) (not-false _ (w .2 .left))))
+          (λ w. rw (w .1, w .2, w .3) (held-above p bytes h (v .result) (v .ensures) (w .0 .left))))
+          (c .if2 .came),
+    )
+
+returns : tie.Need-returns Inv-loop μ-loop
+returns c =
+    let s = c .before .before .before .before .before .before .args in
+    let l = c .before .before .loop in
+    held-all (s .p) (s .pool .now) (l .inv .1) (l .inv .0) (⊎-elim (λ w. inl (omega (arith, ltb-false))) (λ w. inr (w .left)) (c .before .loop-test .came))
+
+pub draw-from-spec : {M : Type 1} → statement M
+draw-from-spec =
+    tie.close
+    (tie.spec
+    Inv-loop
+    μ-loop
+    div-limit
+    mul-limit
+    sub-values
+    loop-holds
+    value-at-requires
+    rem-index
+    array-read-if3
+    array-write-marks
+    sign-at-requires
+    array-set-from-challenge
+    add-count
+    add-m
+    loop-less
+    loop-again
+    returns)

@@ -1,0 +1,77 @@
+-- `challenge::pool::flat` meets its contract: the first i bytes are those of the joined digests.
+-- Assumes nothing.
+use mathlib.Core.Path.{_≡_, refl, sym, _∙_}
+use Prim.Native.Nat.{_≤_, _-_}
+use native.Mathlib.Omega.{arith}
+use borrow.Author.Needs.{needs}
+use lib.ListN.{length, take}
+use lib.Seq.{take-all}
+use Rattle.algebra.proofs.List.{copy-more}
+use Rattle.challenge.specs.Pool.{joined}
+use Rattle.challenge.proofs.Digests.{joined-length, joined-at}
+use Rattle.challenge.proofs.pool.flat.Statement.{statement}
+use Rattle.challenge.proofs.pool.flat.Tie as tie
+
+abbrev Inv-loop : tie.InvT-loop
+Inv-loop digests bytes₀ i₀ bytes i = (i ≤ 512) × (length bytes ≡ 512) × (take i bytes ≡ take i (joined digests))
+
+abbrev μ-loop : tie.MeasureT-loop
+μ-loop digests bytes₀ i₀ bytes i = 512 - i
+
+loop-holds : tie.Need-loop-holds Inv-loop μ-loop
+loop-holds c = (search needs, search needs, refl)
+
+mul-bytes : tie.Need-mul-bytes Inv-loop μ-loop
+mul-bytes c = search needs
+
+index-1-bytes : tie.Need-index-1-bytes Inv-loop μ-loop
+index-1-bytes c = search needs
+
+index-2-bytes : tie.Need-index-2-bytes Inv-loop μ-loop
+index-2-bytes c = search needs
+
+array-write-bytes : tie.Need-array-write-bytes Inv-loop μ-loop
+array-write-bytes c = search needs
+
+add-i : tie.Need-add-i Inv-loop μ-loop
+add-i c = search needs
+
+loop-less : tie.Need-loop-less Inv-loop μ-loop
+loop-less c = search needs
+
+loop-again : tie.Need-loop-again Inv-loop μ-loop
+loop-again c =
+    let l = c .before .before .loop in
+    let s = c .before .before .before in
+    let n : length (s .args .t1) ≡ 8 = search needs in
+    let m = joined-length (s .args .t1) (s .pre) in (
+      omega arith,
+      search needs,
+      copy-more (l .bytes) (joined (s .args .t1)) (l .i) _ 0 (omega arith) (omega arith) (l .inv .2)
+          (sym (joined-at (s .args .t1) (l .i) (s .pre) (omega arith))),
+    )
+
+returns : tie.Need-returns Inv-loop μ-loop
+returns c =
+    let l = c .before .loop in
+    let s = c .before .before in
+    let n : length (s .args .t1) ≡ 8 = search needs in
+    let m = joined-length (s .args .t1) (s .pre) in
+    let e : l .i ≡ 512 = omega arith in
+    sym (take-all 512 (l .bytes) (omega arith)) ∙ rw e at (l .inv .2) ∙ take-all 512 (joined (s .args .t1)) (omega arith)
+
+pub flat-spec : {M : Type 1} → statement M
+flat-spec =
+    tie.close
+    (tie.spec
+    Inv-loop
+    μ-loop
+    loop-holds
+    mul-bytes
+    index-1-bytes
+    index-2-bytes
+    array-write-bytes
+    add-i
+    loop-less
+    loop-again
+    returns)

@@ -1,0 +1,62 @@
+-- `residue_of` meets its contract: a negative coefficient -(n + 1) has the residue q - 1 - n mod q.
+-- Assumes nothing.
+use mathlib.Core.Path.{_≡_, sym, ap, _∙_}
+use Prim.Native.Nat.{suc, _-_, _%_}
+use native.Mathlib.Omega.{arith}
+use lib.IntN.{ℤ, natAbs}
+use lib.Signed.{mag}
+use mir.Facts.{toZ-ofZ}
+use borrow.Author.Needs.{needs}
+use Rattle.algebra.specs.Integer.{residue}
+use Rattle.algebra.proofs.Remainder.{mod-below-pred}
+use Rattle.polynomial.proofs.Sign.{negative, natural, complement-is, complement-read}
+use Rattle.polynomial.proofs.evaluation.residue_of.Statement.{statement}
+use Rattle.polynomial.proofs.evaluation.residue_of.Tie as tie
+
+sub-result : tie.Need-sub-result
+sub-result c = search needs
+
+sub-result-2 : tie.Need-sub-result-2
+sub-result-2 c = rw (complement-is (c .before .fits .a) (c .if1 .taken)) (record { sfits = c .before .fits .a .sfits })
+
+cast-result : tie.Need-cast-result
+cast-result c = rw (complement-read (c .before .fits .a) (c .if1 .taken)) (tt, omega (arith, c .before .fits .a .sfits))
+
+rem-result : tie.Need-rem-result
+rem-result c = search needs
+
+sub-result-3 : tie.Need-sub-result-3
+sub-result-3 c = mod-below-pred _ _ (c .before .pre)
+
+cast-result-2 : tie.Need-cast-result-2
+cast-result-2 c = rw (toZ-ofZ (c .before .fits .a), natural (c .before .fits .a) (c .if1 .left)) (tt, omega (arith, c .before .fits .a .sfits))
+
+rem-result-2 : tie.Need-rem-result-2
+rem-result-2 c = search needs
+
+returns : tie.Need-returns
+returns c =
+    let q = c .before .args .q in
+    let n = mag (c .before .args .a) in
+    let e : q - 1 - n % q ≡ q - suc (n % q) = omega arith in
+    rw (complement-read (c .before .fits .a) (c .if1 .taken)) (e ∙ ap (λ (z : ℤ). residue z q) (sym (negative (c .before .fits .a) (c .if1 .taken))))
+
+returns-2 : tie.Need-returns-2
+returns-2 c =
+    let q = c .before .args .q in
+    let e = natural (c .before .fits .a) (c .if1 .left) in
+    rw (toZ-ofZ (c .before .fits .a)) (ap (λ (z : ℤ). natAbs z % q) e ∙ ap (λ (z : ℤ). residue z q) (sym e))
+
+pub residue-of-spec : {M : Type 1} → statement M
+residue-of-spec =
+    tie.close
+    (tie.spec
+    sub-result
+    sub-result-2
+    cast-result
+    rem-result
+    sub-result-3
+    cast-result-2
+    rem-result-2
+    returns
+    returns-2)

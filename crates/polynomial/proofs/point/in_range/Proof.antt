@@ -1,0 +1,74 @@
+-- `in_range` meets its contract: after i turns the flag says whether the first i coefficients are in range.
+-- Assumes nothing.
+use mathlib.Core.Path.{_≡_, refl, sym, ap, ap₂, _∙_}
+use mathlib.Core.Bool.{Bool, _&&_}
+use mathlib.Core.List.{List}
+use Prim.Native.Nat.{_≤_, _-_}
+use native.Mathlib.Omega.{arith}
+use lib.Dec.{leb}
+use lib.IntN.{ℤ, pos, natAbs}
+use lib.ListN.{length, getD, take}
+use lib.Seq.{take-length}
+use mir.Facts.{toZ-ofZ}
+use mir.Syntax.{w32}
+use borrow.Author.Needs.{needs}
+use Rattle.algebra.proofs.All.{all-more}
+use Rattle.polynomial.specs.Polynomial.{within}
+use Rattle.polynomial.proofs.point.in_range.Statement.{statement}
+use Rattle.polynomial.proofs.point.in_range.Tie as tie
+
+abbrev Inv-loop : tie.InvT-loop
+Inv-loop z bound all₀ i₀ all i = (i ≤ length z) × (all ≡ within bound (take i z))
+
+abbrev μ-loop : tie.MeasureT-loop
+μ-loop z bound all₀ i₀ all i = length z - i
+
+loop-holds : tie.Need-loop-holds Inv-loop μ-loop
+loop-holds c = (search needs, refl)
+
+mul-is-within : tie.Need-mul-is-within Inv-loop μ-loop
+mul-is-within c = search needs
+
+shared-slice-copy-out-is-within : tie.Need-shared-slice-copy-out-is-within Inv-loop μ-loop
+shared-slice-copy-out-is-within c = search needs
+
+is-within-requires : tie.Need-is-within-requires Inv-loop μ-loop
+is-within-requires c κs = search needs
+
+add-i : tie.Need-add-i Inv-loop μ-loop
+add-i c = search needs
+
+loop-less : tie.Need-loop-less Inv-loop μ-loop
+loop-less c = search needs
+
+loop-again : tie.Need-loop-again Inv-loop μ-loop
+loop-again c =
+    let s = c .before .before .before .before in
+    let l = c .before .before .before .loop in
+    let z = s .args .z .now in
+    (omega arith,
+     ap₂ (λ (u v : Bool). u && v) (l .inv .1)
+     (c .is-within .ensures ∙ ap (λ (a : ℤ). leb (natAbs a) (s .args .bound)) (toZ-ofZ {w = w32} {z = getD z (l .i) (pos 0)} (record { sfits = c .before .is-within-arg .given })))
+     ∙ sym (all-more (λ (a : ℤ). leb (natAbs a) (s .args .bound)) z (l .i) (pos 0) (omega arith)))
+
+returns : tie.Need-returns Inv-loop μ-loop
+returns c =
+    let l = c .before .loop in
+    let z = c .before .before .args .z .now in
+    let e : l .i ≡ length z = omega arith in
+    (rw e at (l .inv .1)) ∙ ap (λ (f : List ℤ). within (c .before .before .args .bound) f) (take-length z)
+
+pub in-range-spec : {M : Type 1} → statement M
+in-range-spec =
+    tie.close
+    (tie.spec
+    Inv-loop
+    μ-loop
+    loop-holds
+    mul-is-within
+    shared-slice-copy-out-is-within
+    is-within-requires
+    add-i
+    loop-less
+    loop-again
+    returns)

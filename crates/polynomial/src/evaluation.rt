@@ -1,0 +1,111 @@
+// Evaluation at powers of g, modulo q. The powers come as a lent table, so any set's table serves.
+ghost use mathlib.Core.Path.{_≡_};
+ghost use mathlib.Core.List.{map};
+ghost use Prim.Native.Nat.{_+_, _<_, _≤_, _%_, _^_};
+ghost use lib.IntN.{ℤ, pos};
+ghost use lib.ListN.{length, take};
+ghost use Rattle.algebra.specs.Integer.{residue};
+ghost use Rattle.polynomial.specs.Evaluation.{evaluation, evaluations, Below, Evaluable};
+use parameters::Params;
+
+// The residue of a coefficient, in 0..q-1. The one function of the evaluator that meets a negative number.
+fn residue_of(a: i16, q: u32) -> u32
+    requires { ⌜ 0 < q ⌝ }
+    ensures { λ r. ⌜ r ≡ residue a q ⌝ }
+{
+    if a < 0 {
+        q - 1 - ((-1 - a) as u32) % q
+    } else {
+        (a as u32) % q
+    }
+}
+
+// The residues of the coefficients, in front: worked out once for a polynomial, however many points follow.
+fn residues_of(a: &[i16], q: u32) -> [u32; 1153]
+    requires { ⌜ (0 < q) × (length (now a) ≤ 1153) ⌝ }
+    ensures { λ r. ⌜ take (length (now (a .entry))) r ≡ map (λ (z : ℤ). residue z q) (now (a .entry)) ⌝ }
+{
+    let mut out = [0u32; 1153];
+    let mut i = 0;
+    while i < a.len() {
+        out[i] = residue_of(a[i], q);
+        i += 1;
+    }
+    out
+}
+
+// k + j modulo n, for k and j below n: the next place in the table of powers. The loop that calls it has n - j ready.
+fn turned(k: usize, j: usize, n: usize) -> usize
+    requires { ⌜ (k < n) × (j < n) × (n < 65536) ⌝ }
+    ensures { λ r. ⌜ r ≡ (k + j) % n ⌝ }
+{
+    let left = n - j;
+    if k < left { k + j } else { k - left }
+}
+
+fn wide(x: u32) -> u64
+    ensures value { λ r. ⌜ r ≡ x ⌝ }
+    ensures small { λ r. ⌜ r < 2 ^ 32 ⌝ }
+{
+    x as u64
+}
+
+// The evaluation at exponent j of a polynomial whose coefficients are residues already. The sum is reduced once, at the end.
+fn evaluation_of(p: Params, powers: &[u32], residues: &[u32], j: usize) -> u32
+    requires { ⌜ Evaluable p (now powers) (map pos (now residues)) ⌝ }
+    requires { ⌜ Below (p .q) (now residues) ⌝ }
+    requires { ⌜ j < p .n ⌝ }
+    ensures { λ r. ⌜ r ≡ evaluation p (map pos (now (residues .entry))) j ⌝ }
+{
+    let q = p.q;
+    let n = p.n;
+    let mut acc: u64 = 0;
+    let mut k: usize = 0;
+    let mut i: usize = 0;
+    while i < n {
+        acc += wide(residues[i]) * wide(powers[k]);
+        k = turned(k, j, n);
+        i += 1;
+    }
+    (acc % wide(q)) as u32
+}
+
+// The evaluations at the points of a polynomial whose coefficients are residues already.
+fn evaluations_of(p: Params, powers: &[u32], residues: &[u32], points: &[u16], out: &mut [u32])
+    requires { ⌜ Evaluable p (now powers) (map pos (now residues)) ⌝ }
+    requires { ⌜ Below (p .q) (now residues) ⌝ }
+    requires { ⌜ Below (p .n) (now points) ⌝ }
+    requires { ⌜ length (now out) ≡ length (now points) ⌝ }
+    ensures { λ _. ⌜ now (out .exit) ≡ evaluations p (map pos (now (residues .entry))) (now (points .entry)) ⌝ }
+{
+    let mut i: usize = 0;
+    while i < points.len() {
+        out[i] = evaluation_of(p, powers, residues, points[i] as usize);
+        i += 1;
+    }
+}
+
+// The evaluation at exponent j.
+pub fn evaluate_at(p: Params, powers: &[u32], coefficients: &[i16], j: usize) -> u32
+    requires { ⌜ Evaluable p (now powers) (now coefficients) ⌝ }
+    requires { ⌜ j < p .n ⌝ }
+    ensures { λ r. ⌜ r ≡ evaluation p (now (coefficients .entry)) j ⌝ }
+{
+    let q = p.q;
+    let n = p.n;
+    let residues = residues_of(coefficients, q);
+    evaluation_of(p, powers, &residues[..n], j)
+}
+
+// The evaluations at the points, in their order.
+pub fn evaluate(p: Params, powers: &[u32], coefficients: &[i16], points: &[u16], out: &mut [u32])
+    requires { ⌜ Evaluable p (now powers) (now coefficients) ⌝ }
+    requires { ⌜ Below (p .n) (now points) ⌝ }
+    requires { ⌜ length (now out) ≡ length (now points) ⌝ }
+    ensures { λ _. ⌜ now (out .exit) ≡ evaluations p (now (coefficients .entry)) (now (points .entry)) ⌝ }
+{
+    let q = p.q;
+    let n = p.n;
+    let residues = residues_of(coefficients, q);
+    evaluations_of(p, powers, &residues[..n], points, out);
+}

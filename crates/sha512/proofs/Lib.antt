@@ -1,0 +1,5 @@
+pub mod Loops
+pub mod Filling
+pub mod Chain
+pub mod Digest
+pub mod Roots

@@ -1,0 +1,65 @@
+-- `expanded` adds one word to the schedule a turn.
+-- Assumes nothing.
+use mathlib.Core.Path.{_≡_, refl, sym, _∙_}
+use Prim.Native.Nat.{_-_, _≤_}
+use native.Mathlib.Omega.{arith}
+use lib.ListN.{length, take}
+use lib.Seq.{take-all}
+use Rattle.sha512.specs.Compression.{expand}
+use Rattle.sha512.proofs.Loops.{grow-to, next-of-expand, expand-more}
+use borrow.Author.Needs.{needs}
+use Rattle.sha512.proofs.compression.expanded.Statement.{statement}
+use Rattle.sha512.proofs.compression.expanded.Tie as tie
+
+abbrev Inv-loop : tie.InvT-loop
+Inv-loop w₀ t₀ w t = (16 ≤ t) × (t ≤ 80) × (length w ≡ 80) × (take t w ≡ expand (t - 16) (take 16 w₀))
+
+abbrev μ-loop : tie.MeasureT-loop
+μ-loop w₀ t₀ w t = 80 - t
+
+loop-holds : tie.Need-loop-holds Inv-loop μ-loop
+unfolding expand
+loop-holds c = (search needs, search needs, search needs, refl)
+
+next-word-requires : tie.Need-next-word-requires Inv-loop μ-loop
+next-word-requires c κs = search needs
+
+mul-w : tie.Need-mul-w Inv-loop μ-loop
+mul-w c = search needs
+
+array-write-w : tie.Need-array-write-w Inv-loop μ-loop
+array-write-w c = search needs
+
+add-t : tie.Need-add-t Inv-loop μ-loop
+add-t c = search needs
+
+loop-less : tie.Need-loop-less Inv-loop μ-loop
+loop-less c = search needs
+
+loop-again : tie.Need-loop-again Inv-loop μ-loop
+loop-again c = let l = c .before .before .before .loop in (
+  omega arith,
+  omega arith,
+  search needs,
+  grow-to (l .w) (l .t) (omega arith) (l .inv .3) (c .next-word .ensures ∙ next-of-expand (l .t) (l .w) _ (l .inv .0) (l .inv .3)) (expand-more (l .t) _ (l .inv .0)),
+)
+
+returns : tie.Need-returns Inv-loop μ-loop
+returns c = let l = c .before .loop in
+    let e : l .t ≡ 80 = omega arith in
+    sym (take-all 80 (l .w) (omega arith)) ∙ rw e at (l .inv .3)
+
+pub expanded-spec : {M : Type 1} → statement M
+expanded-spec =
+    tie.close
+    (tie.spec
+    Inv-loop
+    μ-loop
+    loop-holds
+    next-word-requires
+    mul-w
+    array-write-w
+    add-t
+    loop-less
+    loop-again
+    returns)

@@ -1,0 +1,79 @@
+-- `word_sums` adds one pair of words a turn.
+-- Assumes nothing.
+use mathlib.Core.Path.{_≡_, refl, sym, _∙_}
+use Prim.Native.Nat.{_-_, _≤_}
+use native.Mathlib.Omega.{arith}
+use lib.ListN.{length, take}
+use lib.Seq.{take-all}
+use Rattle.sha512.specs.Word.{add}
+use Rattle.sha512.specs.Compression.{sums}
+use Rattle.sha512.proofs.Loops.{grow-to, sums-more}
+use borrow.Author.Needs.{needs}
+use Rattle.sha512.proofs.compression.word_sums.Statement.{statement}
+use Rattle.sha512.proofs.compression.word_sums.Tie as tie
+
+abbrev Inv-loop : tie.InvT-loop
+Inv-loop s h r₀ i₀ r i = (i ≤ 8) × (length r ≡ 8) × (take i r ≡ sums i s h)
+
+abbrev μ-loop : tie.MeasureT-loop
+μ-loop s h r₀ i₀ r i = 8 - i
+
+loop-holds : tie.Need-loop-holds Inv-loop μ-loop
+unfolding sums
+loop-holds c = (search needs, search needs, refl)
+
+mul-wrapping-add-u64 : tie.Need-mul-wrapping-add-u64 Inv-loop μ-loop
+mul-wrapping-add-u64 c = search needs
+
+array-read-wrapping-add-u64 : tie.Need-array-read-wrapping-add-u64 Inv-loop μ-loop
+array-read-wrapping-add-u64 c = search needs
+
+mul-wrapping-add-u64-2 : tie.Need-mul-wrapping-add-u64-2 Inv-loop μ-loop
+mul-wrapping-add-u64-2 c = search needs
+
+array-read-wrapping-add-u64-2 : tie.Need-array-read-wrapping-add-u64-2 Inv-loop μ-loop
+array-read-wrapping-add-u64-2 c = search needs
+
+wrapping-add-u64-requires : tie.Need-wrapping-add-u64-requires Inv-loop μ-loop
+wrapping-add-u64-requires c κs = search needs
+
+mul-r : tie.Need-mul-r Inv-loop μ-loop
+mul-r c = search needs
+
+array-write-r : tie.Need-array-write-r Inv-loop μ-loop
+array-write-r c = search needs
+
+add-i : tie.Need-add-i Inv-loop μ-loop
+add-i c = search needs
+
+loop-less : tie.Need-loop-less Inv-loop μ-loop
+loop-less c = search needs
+
+loop-again : tie.Need-loop-again Inv-loop μ-loop
+unfolding add
+loop-again c = let l = c .before .before .loop in
+    (omega arith, search needs, grow-to (l .r) (l .i) (omega arith) (l .inv .2) (c .wrapping-add-u64 .ensures) (sums-more (l .i) _ _))
+
+returns : tie.Need-returns Inv-loop μ-loop
+returns c = let l = c .before .loop in
+    let e : l .i ≡ 8 = omega arith in
+    sym (take-all 8 (l .r) (omega arith)) ∙ rw e at (l .inv .2)
+
+pub word-sums-spec : {M : Type 1} → statement M
+word-sums-spec =
+    tie.close
+    (tie.spec
+    Inv-loop
+    μ-loop
+    loop-holds
+    mul-wrapping-add-u64
+    array-read-wrapping-add-u64
+    mul-wrapping-add-u64-2
+    array-read-wrapping-add-u64-2
+    wrapping-add-u64-requires
+    mul-r
+    array-write-r
+    add-i
+    loop-less
+    loop-again
+    returns)

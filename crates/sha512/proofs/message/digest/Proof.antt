@@ -1,0 +1,80 @@
+-- `digest` writes one word a turn.
+-- Assumes nothing.
+use mathlib.Core.Path.{_≡_, refl, sym, _∙_}
+use Prim.Native.Nat.{_*_, _-_, _≤_}
+use native.Mathlib.Omega.{arith}
+use lib.ListN.{length, take}
+use lib.Seq.{take-all}
+use Rattle.sha512.specs.Digest.{bytesOf}
+use Rattle.sha512.proofs.Loops.{bytes-step}
+use borrow.Author.Needs.{needs}
+use Rattle.sha512.proofs.message.digest.Statement.{statement}
+use Rattle.sha512.proofs.message.digest.Tie as tie
+
+abbrev Inv-loop : tie.InvT-loop
+Inv-loop h out₀ i₀ out i = (i ≤ 8) × (length out ≡ 64) × (take (8 * i) out ≡ bytesOf i h)
+
+abbrev μ-loop : tie.MeasureT-loop
+μ-loop h out₀ i₀ out i = 8 - i
+
+loop-holds : tie.Need-loop-holds Inv-loop μ-loop
+unfolding bytesOf
+loop-holds c = (search needs, search needs, refl)
+
+mul-word-bytes : tie.Need-mul-word-bytes Inv-loop μ-loop
+mul-word-bytes c = search needs
+
+array-read-word-bytes : tie.Need-array-read-word-bytes Inv-loop μ-loop
+array-read-word-bytes c = search needs
+
+word-bytes-requires : tie.Need-word-bytes-requires Inv-loop μ-loop
+word-bytes-requires c κs = search needs
+
+slice-aggregate-put : tie.Need-slice-aggregate-put Inv-loop μ-loop
+slice-aggregate-put c = search needs
+
+mul-put : tie.Need-mul-put Inv-loop μ-loop
+mul-put c = search needs
+
+slice-aggregate-put-2 : tie.Need-slice-aggregate-put-2 Inv-loop μ-loop
+slice-aggregate-put-2 c = search needs
+
+put-requires : tie.Need-put-requires Inv-loop μ-loop
+put-requires c κs = search needs
+
+add-i : tie.Need-add-i Inv-loop μ-loop
+add-i c = search needs
+
+loop-less : tie.Need-loop-less Inv-loop μ-loop
+loop-less c = search needs
+
+loop-again : tie.Need-loop-again Inv-loop μ-loop
+loop-again c = let l = c .before .before .before .before .before .before .loop in (
+  omega arith,
+  search needs,
+  bytes-step _ (l .out) _ _ (l .i) (omega arith) (l .inv .2) (c .before .before .before .before .word-bytes .ensures) (c .before .put .ensures),
+)
+
+returns : tie.Need-returns Inv-loop μ-loop
+returns c = let l = c .before .loop in
+    let e : l .i ≡ 8 = omega arith in
+    sym (take-all 64 (l .out) (omega arith)) ∙ rw e at (l .inv .2)
+
+pub digest-spec : {M : Type 1} → statement M
+digest-spec =
+    tie.close
+    (tie.spec
+    Inv-loop
+    μ-loop
+    loop-holds
+    mul-word-bytes
+    array-read-word-bytes
+    word-bytes-requires
+    slice-aggregate-put
+    mul-put
+    slice-aggregate-put-2
+    put-requires
+    add-i
+    loop-less
+    loop-again
+    returns)

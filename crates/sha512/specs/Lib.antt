@@ -1,0 +1,6 @@
+pub mod Word
+pub mod Bytes
+pub mod Constants
+pub mod Padding
+pub mod Compression
+pub mod Digest
