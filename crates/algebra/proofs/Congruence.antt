@@ -2,12 +2,12 @@
 -- Assumes nothing.
 use mathlib.Core.Path.{_≡_, refl, sym, ap, _∙_}
 use mathlib.Core.Bool.{Bool, true, false, not, cond}
-use Prim.Native.Nat.{ℕ, zero, suc, _+_, _-_, _*_, _/_, _%_, _≤_, _<_}
+use Prim.Native.Nat.{ℕ, zero, suc, _+_, _-_, _*_, _/_, _≤_, _<_}
 use native.Mathlib.Nat.{mod-lt, mod-add-div}
 use native.Mathlib.Omega.{arith}
 use lib.Dec.{T, ltb}
 use lib.Arith.{le→nltb}
-use lib.IntN.{ℤ, pos, negsuc, _+ℤ_, _-ℤ_, _*ℤ_, negℤ, subℕ}
+use lib.IntN.{ℤ, pos, negsuc, _+ℤ_, _*ℤ_, negℤ, subℕ}
 use Rattle.algebra.specs.Integer.{residue}
 use Rattle.algebra.proofs.Ring.{ring}
 
@@ -76,18 +76,3 @@ residue-eq {q} positive {a} {b} h =
 
 pub eq-residue : {q : ℕ} → 0 < q → {a b : ℤ} → residue a q ≡ residue b q → Cong q a b
 eq-residue {q} positive {a} {b} e = cong-trans (cong-residue positive a) (cong-trans (cong-eq (ap pos e)) (cong-sym (cong-residue positive b)))
-
--- residues of sums and products, from the summands' and factors' residues
-module _ {q : ℕ} (positive : 0 < q) where
-  pub residue-add : (a b : ℤ) → residue (a +ℤ b) q ≡ (residue a q + residue b q) % q
-  residue-add a b = residue-eq positive (cong-add (cong-residue positive a) (cong-residue positive b))
-
-  pub residue-mul : (a b : ℤ) → residue (a *ℤ b) q ≡ residue a q * residue b q % q
-  residue-mul a b = residue-eq positive (cong-mul (cong-residue positive a) (cong-residue positive b))
-
-  -- a sum that is carried unreduced takes one product more
-  pub residue-more : (acc r w : ℕ) (s a : ℤ) → acc % q ≡ residue s q → r ≡ residue a q → (acc + r * w) % q ≡ residue (s +ℤ a *ℤ pos w) q
-  residue-more acc r w s a e f =
-      residue-eq positive {a = pos (acc + r * w)} {b = s +ℤ a *ℤ pos w}
-      (cong-add (eq-residue positive {a = pos acc} {b = s} e)
-      (cong-mul (cong-trans (cong-eq (ap pos f)) (cong-sym (cong-residue positive a))) (cong-refl (pos w))))

@@ -1,11 +1,11 @@
 -- Lists as loops fill them, from the front, one store a turn. Over any element.
 -- Assumes nothing.
-use mathlib.Core.Path.{_≡_, refl, sym, ap, _∙_}
+use mathlib.Core.Path.{_≡_, sym, ap, _∙_}
 use mathlib.Core.List.{List, [], _∷_, _++_, map, map-append}
-use Prim.Native.Nat.{ℕ, zero, suc, _+_, _-_, _≤_, _<_}
+use Prim.Native.Nat.{ℕ, _+_, _-_, _≤_, _<_}
 use native.Mathlib.Numerals.{add-one}
 use native.Mathlib.Omega.{arith}
-use lib.ListN.{length, getD, take, drop, set, replicate}
+use lib.ListN.{length, getD, take, set}
 use lib.Seq.{take-suc, take-suc-set, take-all, getD-append-add}
 
 module _ {ℓ} {A : Type ℓ} where
@@ -18,6 +18,10 @@ module _ {ℓ} {A : Type ℓ} where
   -- a store at t, where the first t elements are l
   pub grow : (w : List A) (t : ℕ) (r : A) (l : List A) → t < length w → take t w ≡ l → take (t + 1) (set w t r) ≡ l ++ (r ∷ [])
   grow w t r l h e = rw (add-one, take-suc-set, e)
+
+  -- a store of x behind the first t elements, which are l
+  pub grow-to : (w : List A) (t : ℕ) {r x : A} {l m : List A} → t < length w → take t w ≡ l → r ≡ x → m ≡ l ++ (x ∷ []) → take (t + 1) (set w t r) ≡ m
+  grow-to w t {r} {x} {l} h e q g = grow w t r l h e ∙ ap (λ (y : A). l ++ (y ∷ [])) q ∙ sym g
 
   -- a store that copies element t of a list
   pub copy-more : (w l : List A) (t : ℕ) (r d : A) → t < length w → t < length l → take t w ≡ take t l → r ≡ getD l t d

@@ -1,6 +1,6 @@
 -- Remainders of natural numbers: of products, of powers, and of a place that goes round a table.
 -- Assumes nothing.
-use mathlib.Core.Path.{_≡_, refl, sym, ap, _∙_}
+use mathlib.Core.Path.{_≡_, sym, ap, _∙_}
 use Prim.Native.Nat.{ℕ, zero, suc, _+_, _-_, _*_, _/_, _%_, _^_, _<_, _≤_}
 use native.Mathlib.Nat.{mod-lt, mod-eq-of-lt, mod-eq-sub-mod, mul-add-mod-self-right, div-add-mod', mul-comm, mul-assoc, add-mul, suc-mul, zero-mul, one-mul, le-of-lt, mul-le-mul-left, mul-lt-mul-of-pos-right, lt-of-le-of-lt}
 use native.Mathlib.Omega.{arith}
@@ -16,9 +16,6 @@ mod-mul-left a b q =
     (ap (λ (x : ℕ). x * b % q) (sym (div-add-mod' a q))
     ∙ ap (λ (x : ℕ). x % q) (add-mul (a / q * q) (a % q) b ∙ ap (λ (x : ℕ). x + a % q * b) (swap-last (a / q) q b))
     ∙ mul-add-mod-self-right (a / q * b) q (a % q * b))
-
-pub mod-mul-right : (a b q : ℕ) → a * (b % q) % q ≡ a * b % q
-mod-mul-right a b q = rw (mul-comm a (b % q), mod-mul-left, mul-comm b a)
 
 pub product-below : {a b m n : ℕ} → a < m → b < n → a * b < m * n
 product-below {a} {b} {m} {n} h l = lt-of-le-of-lt (mul-le-mul-left a (le-of-lt l)) (mul-lt-mul-of-pos-right h (omega arith))

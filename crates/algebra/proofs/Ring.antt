@@ -1,7 +1,7 @@
 -- ℤ is a commutative ring: the laws that lib.IntN lacks, and the ruleset `ring`, with which `simp` sorts both sides of an equation alike.
 -- Assumes nothing.
-use mathlib.Core.Path.{_≡_, refl, sym, ap, _∙_}
-use Prim.Native.Nat.{ℕ, zero, suc, _+_, _*_}
+use mathlib.Core.Path.{_≡_, sym, ap, _∙_}
+use Prim.Native.Nat.{zero, suc}
 use lib.IntN.{ℤ, pos, negsuc, _+ℤ_, _-ℤ_, _*ℤ_, negℤ, sucℤ, predℤ, one}
 use lib.IntN.{+ℤ-idl, +ℤ-idr, +ℤ-negℤ-cancel, +ℤ-assoc, +ℤ-comm, +ℤ-invr, +ℤ-invl, negℤ-+ℤ, negℤ-negℤ, negℤ-sucℤ, negℤ-predℤ, *ℤ-one, zero-*ℤ, *ℤ-zero, sucℤ-*ℤ, predℤ-*ℤ, *ℤ-comm}
 

@@ -4,7 +4,7 @@ use mathlib.Core.Path.{_≡_, refl, sym, ap, ap₂, _∙_}
 use Prim.Native.Nat.{ℕ, zero, suc, _<_}
 use native.Mathlib.Omega.{arith}
 use lib.IntN.{ℤ, pos, _+ℤ_, +ℤ-idl, +ℤ-idr, +ℤ-assoc}
-use Rattle.algebra.specs.Integer.{sum, residue}
+use Rattle.algebra.specs.Integer.{sum}
 use Rattle.algebra.proofs.Congruence.{Cong, cong-refl, cong-add}
 
 -- sums whose terms agree modulo q agree modulo q

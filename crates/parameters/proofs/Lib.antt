@@ -1,2 +1,3 @@
 pub mod Sound
 pub mod Tables
+pub mod Lookup

@@ -36,10 +36,10 @@ sum-from g j m [] = sym (*ℤ-zero (pos (g ^ (m * j))))
 sum-from g j m (a ∷ f) =
     sum-front (termFrom g j m (a ∷ f)) (length f)
     ∙ ap₂ _+ℤ_
-      (ap (λ (k : ℕ). a *ℤ pos (g ^ (k * j))) (add-zero m))
-      (sum-same (λ (i : ℕ). termFrom g j m (a ∷ f) (suc i)) (termFrom g j (suc m) f) (length f) (λ i l. ap (λ (k : ℕ). coefficient f i *ℤ pos (g ^ (k * j))) (omega arith))
-      ∙ sum-from g j (suc m) f
-      ∙ ap (λ (k : ℕ). pos k *ℤ at (pos (g ^ j)) f) (power-next g j m))
+    (ap (λ (k : ℕ). a *ℤ pos (g ^ (k * j))) (add-zero m))
+    (sum-same (λ (i : ℕ). termFrom g j m (a ∷ f) (suc i)) (termFrom g j (suc m) f) (length f) (λ i l. ap (λ (k : ℕ). coefficient f i *ℤ pos (g ^ (k * j))) (omega arith))
+    ∙ sum-from g j (suc m) f
+    ∙ ap (λ (k : ℕ). pos k *ℤ at (pos (g ^ j)) f) (power-next g j m))
     ∙ front-step a (pos (g ^ (m * j))) (pos (g ^ j)) (at (pos (g ^ j)) f)
 
 sum-is-at : (p : Params) (f : List ℤ) (j : ℕ) → sum (term p f j) (length f) ≡ at (pos (p .g ^ j)) f

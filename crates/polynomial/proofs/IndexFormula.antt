@@ -24,12 +24,12 @@ module _ (f : List ℤ) (n k : ℕ) (size : length f ≡ n) (below : k < n) wher
   star-from m (a ∷ c) h =
       coefficient-add (scale a (rotations m f)) (star (rotations (suc m) f) c) k
       ∙ ap₂ _+ℤ_
-        (coefficient-scale a (rotations m f) k
-        ∙ ap (λ (u : ℤ). a *ℤ u) (coefficient-rotations f n m k size (omega arith) below)
-        ∙ ap (λ (i : ℕ). a *ℤ coefficient f ((k + (n - i)) % n)) (sym (add-zero m)))
-        (star-from (suc m) c (omega arith)
-        ∙ sum-same (summandFrom (suc m) c) (λ (i : ℕ). summandFrom m (a ∷ c) (suc i)) (length c)
-          (λ i l. ap (λ (r : ℕ). coefficient c i *ℤ coefficient f ((k + (n - r)) % n)) (omega arith)))
+      (coefficient-scale a (rotations m f) k
+      ∙ ap (λ (u : ℤ). a *ℤ u) (coefficient-rotations f n m k size (omega arith) below)
+      ∙ ap (λ (i : ℕ). a *ℤ coefficient f ((k + (n - i)) % n)) (sym (add-zero m)))
+      (star-from (suc m) c (omega arith)
+      ∙ sum-same (summandFrom (suc m) c) (λ (i : ℕ). summandFrom m (a ∷ c) (suc i)) (length c)
+      (λ i l. ap (λ (r : ℕ). coefficient c i *ℤ coefficient f ((k + (n - r)) % n)) (omega arith)))
       ∙ sym (sum-front (summandFrom m (a ∷ c)) (length c))
 
   pub star-coefficient : (c : List ℤ) → length c ≡ n → coefficient (star f c) k ≡ sum (λ (i : ℕ). coefficient c i *ℤ coefficient f ((k + (n - i)) % n)) n
@@ -38,4 +38,4 @@ module _ (f : List ℤ) (n k : ℕ) (size : length f ≡ n) (below : k < n) wher
       star-from 0 c (omega arith)
       ∙ ap (λ (m : ℕ). sum (summandFrom 0 c) m) e
       ∙ sum-same (summandFrom 0 c) (λ (i : ℕ). coefficient c i *ℤ coefficient f ((k + (n - i)) % n)) n
-        (λ i l. ap (λ (r : ℕ). coefficient c i *ℤ coefficient f ((k + (n - r)) % n)) (omega arith))
+      (λ i l. ap (λ (r : ℕ). coefficient c i *ℤ coefficient f ((k + (n - r)) % n)) (omega arith))

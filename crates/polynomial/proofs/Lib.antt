@@ -6,5 +6,4 @@ pub mod EvaluationLaws
 pub mod Coefficient
 pub mod IndexFormula
 pub mod Rotation
-pub mod Sign
 pub mod Table

@@ -2,12 +2,11 @@
 -- Assumes nothing.
 use mathlib.Core.Path.{_≡_, refl, sym, ap, ap₂, _∙_}
 use mathlib.Core.List.{List, [], _∷_, _++_}
-use Prim.Native.Nat.{ℕ, suc, _+_, _-_, _*_, _≤_, _<_}
+use Prim.Native.Nat.{ℕ, suc, _+_, _-_, _*_, _≤_}
 use native.Mathlib.Numerals.{add-one}
 use native.Mathlib.Omega.{arith}
-use lib.ListN.{length, getD, take, drop, set}
+use lib.ListN.{length, getD, take, drop}
 use lib.Seq.{getD-take}
-use Rattle.algebra.proofs.List.{grow}
 use Rattle.sha512.specs.Word.{add}
 use Rattle.sha512.specs.Bytes.{wordAt, bytes8, written}
 use Rattle.sha512.specs.Constants.{K}
@@ -15,10 +14,6 @@ use Rattle.sha512.specs.Compression.{words, nextWord, expand, round, rou
 use Rattle.sha512.specs.Padding.{blockAt}
 use Rattle.sha512.specs.Digest.{chain, bytesOf}
 use Rattle.sha512.proofs.Filling.{take-written}
-
--- a store of x behind the first t elements, which are l
-pub grow-to : (w : List ℕ) (t : ℕ) {r x : ℕ} {l m : List ℕ} → t < length w → take t w ≡ l → r ≡ x → m ≡ l ++ (x ∷ []) → take (t + 1) (set w t r) ≡ m
-grow-to w t {r} {x} {l} h e q g = grow w t r l h e ∙ ap (λ (y : ℕ). l ++ (y ∷ [])) q ∙ sym g
 
 pub words-more : (t : ℕ) (b : List ℕ) → words (t + 1) b ≡ words t b ++ (wordAt b (8 * t) ∷ [])
 unfolding words

@@ -51,10 +51,12 @@ loop-less c = search needs
 loop-again : tie.Need-loop-again Inv-loop μ-loop
 loop-again c =
     let s = c .before .before .before .before .before .before .before .before in
-    let l = c .before .before .before .loop in
-    (omega arith, simp length-set (l .inv .1),
-     mapped-more (evaluation (s .args .p) (map pos (s .args .residues .now))) (s .args .points .now) (l .out) (l .i) 0 (omega arith) (omega arith) (l .inv .2)
-     (c .evaluation-of .ensures))
+    let l = c .before .before .before .loop in (
+      omega arith,
+      simp length-set (l .inv .1),
+      mapped-more (evaluation (s .args .p) (map pos (s .args .residues .now))) (s .args .points .now) (l .out) (l .i) 0 (omega arith) (omega arith) (l .inv .2)
+          (c .evaluation-of .ensures),
+    )
 
 same-length : tie.Need-same-length Inv-loop μ-loop
 same-length c = omega (arith, c .before .before .before .before .before .before .pre .1 .1 .1)

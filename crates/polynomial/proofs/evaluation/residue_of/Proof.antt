@@ -9,7 +9,7 @@ use mir.Facts.{toZ-ofZ}
 use borrow.Author.Needs.{needs}
 use Rattle.algebra.specs.Integer.{residue}
 use Rattle.algebra.proofs.Remainder.{mod-below-pred}
-use Rattle.polynomial.proofs.Sign.{negative, natural, complement-is, complement-read}
+use Rattle.algebra.proofs.Signed.{negative, natural, complement-is, complement-read}
 use Rattle.polynomial.proofs.evaluation.residue_of.Statement.{statement}
 use Rattle.polynomial.proofs.evaluation.residue_of.Tie as tie
 

@@ -48,10 +48,12 @@ loop-less c = search needs
 loop-again : tie.Need-loop-again Inv-loop μ-loop
 loop-again c =
     let s = c .before .before .before .before in
-    let l = c .before .before .before .loop in
-    (omega arith, simp length-set (l .inv .1),
-     mapped-more (λ (z : ℤ). residue z (s .args .q)) (s .args .a .now) (l .out) (l .i) (pos 0) (omega arith) (omega arith) (l .inv .2)
-     (c .residue-of .ensures ∙ ap (λ (z : ℤ). residue z (s .args .q)) (toZ-ofZ {w = w16} {z = getD (s .args .a .now) (l .i) (pos 0)} (record { sfits = c .before .residue-of-arg .given }))))
+    let l = c .before .before .before .loop in (
+      omega arith,
+      simp length-set (l .inv .1),
+      mapped-more (λ (z : ℤ). residue z (s .args .q)) (s .args .a .now) (l .out) (l .i) (pos 0) (omega arith) (omega arith) (l .inv .2)
+          (c .residue-of .ensures ∙ ap (λ (z : ℤ). residue z (s .args .q)) (toZ-ofZ {w = w16} {z = getD (s .args .a .now) (l .i) (pos 0)} (record { sfits = c .before .residue-of-arg .given }))),
+    )
 
 returns : tie.Need-returns Inv-loop μ-loop
 returns c =

@@ -9,7 +9,7 @@ use mir.Syntax.{w8, w16, w32}
 use mir.Val.{SFits}
 use Rattle.algebra.proofs.Absolute.{abs-add, abs-mul}
 use Rattle.algebra.proofs.Signed.{fits-signed}
-use Rattle.polynomial.proofs.Sign.{widened}
+use Rattle.algebra.proofs.Signed.{widened}
 use Rattle.polynomial.proofs.point.add_product.Statement.{statement}
 use Rattle.polynomial.proofs.point.add_product.Tie as tie
 

@@ -68,11 +68,12 @@ add-scaled-requires c κs =
     let s = c .before .before in
     let z = s .args .z .now in
     let f = s .args .f .now in
-    let i = s .args .i in
-    (omega (arith, length-take-le (length f - i) f (omega arith), length-drop i z, length-take-le (length z - i) (drop i z) (omega (arith, length-drop i z))),
-     rw (to-end i z) (within-drop (2 ^ 16) i z (s .pre .2)),
-     within-take 1 (length f - i) f (s .pre .3),
-     rw (toZ-ofZ (s .fits .a)) (s .pre .4))
+    let i = s .args .i in (
+      omega (arith, length-take-le (length f - i) f (omega arith), length-drop i z, length-take-le (length z - i) (drop i z) (omega (arith, length-drop i z))),
+      rw (to-end i z) (within-drop (2 ^ 16) i z (s .pre .2)),
+      within-take 1 (length f - i) f (s .pre .3),
+      rw (toZ-ofZ (s .fits .a)) (s .pre .4),
+    )
 
 slice-relend-prefix-add-scaled : tie.Need-slice-relend-prefix-add-scaled
 slice-relend-prefix-add-scaled c = search needs
@@ -101,11 +102,12 @@ add-scaled-requires-2 c κs =
     let z = s .args .z .now in
     let f = s .args .f .now in
     let i = s .args .i in
-    let e = before-put z (c .before .before .before .add-scaled .last .0) i (omega arith) in
-    (rw (to-end (length f - i) f, e) (omega (arith, length-take-le i z (omega arith), length-drop (length f - i) f)),
-     rw e (within-take (2 ^ 16) i z (s .pre .2)),
-     rw (to-end (length f - i) f) (within-drop 1 (length f - i) f (s .pre .3)),
-     rw (toZ-ofZ (s .fits .a)) (s .pre .4))
+    let e = before-put z (c .before .before .before .add-scaled .last .0) i (omega arith) in (
+      rw (to-end (length f - i) f, e) (omega (arith, length-take-le i z (omega arith), length-drop (length f - i) f)),
+      rw e (within-take (2 ^ 16) i z (s .pre .2)),
+      rw (to-end (length f - i) f) (within-drop 1 (length f - i) f (s .pre .3)),
+      rw (toZ-ofZ (s .fits .a)) (s .pre .4),
+    )
 
 same-length : tie.Need-same-length
 same-length c = search needs

@@ -44,10 +44,11 @@ add-product-requires c κs =
     let l = c .before .before .before .loop in
     let z = s .args .z .now in
     let f = s .args .f .now in
-    let e = ap (λ (h : List ℤ). coefficient h (l .i)) (l .inv .2) ∙ added-first (toZ w8 (ofZ w8 (s .args .a))) z f (l .i) (omega arith) in
-    (rw (toZ-ofZ {w = w32} {z = getD (l .z) (l .i) (pos 0)} (record { sfits = c .before .add-product-arg .given }), e) (omega (arith, within-coefficient (2 ^ 16) z (l .i) (s .pre .1))),
-     rw (toZ-ofZ (s .fits .a)) (s .pre .3),
-     rw (toZ-ofZ {w = w16} {z = getD f (l .i) (pos 0)} (record { sfits = c .add-product-arg2 .given })) (within-coefficient 1 f (l .i) (s .pre .2)))
+    let e = ap (λ (h : List ℤ). coefficient h (l .i)) (l .inv .2) ∙ added-first (toZ w8 (ofZ w8 (s .args .a))) z f (l .i) (omega arith) in (
+      rw (toZ-ofZ {w = w32} {z = getD (l .z) (l .i) (pos 0)} (record { sfits = c .before .add-product-arg .given }), e) (omega (arith, within-coefficient (2 ^ 16) z (l .i) (s .pre .1))),
+      rw (toZ-ofZ (s .fits .a)) (s .pre .3),
+      rw (toZ-ofZ {w = w16} {z = getD f (l .i) (pos 0)} (record { sfits = c .add-product-arg2 .given })) (within-coefficient 1 f (l .i) (s .pre .2)),
+    )
 
 mul-t13 : tie.Need-mul-t13 Inv-loop μ-loop
 mul-t13 c = search needs
@@ -68,14 +69,16 @@ loop-again c =
     let z = s .args .z .now in
     let f = s .args .f .now in
     let a = toZ w8 (ofZ w8 (s .args .a)) in
-    let e = ap (λ (h : List ℤ). coefficient h (l .i)) (l .inv .2) ∙ added-first a z f (l .i) (omega arith) in
-    (omega arith, simp length-set (l .inv .1),
-     ap₂ (λ (h : List ℤ) (v : ℤ). set h (l .i) v) (l .inv .2)
-     (toZ-ofZ {w = w32} {z = c .add-product .result} (record { sfits = c .add-product .ok }) ∙ c .add-product .ensures
-     ∙ ap₂ (λ (u v : ℤ). u +ℤ a *ℤ v)
-       (toZ-ofZ {w = w32} {z = getD (l .z) (l .i) (pos 0)} (record { sfits = c .before .before .add-product-arg .given }) ∙ e)
-       (toZ-ofZ {w = w16} {z = getD f (l .i) (pos 0)} (record { sfits = c .before .add-product-arg2 .given })))
-     ∙ added-next a z f (l .i) (omega arith) (omega arith))
+    let e = ap (λ (h : List ℤ). coefficient h (l .i)) (l .inv .2) ∙ added-first a z f (l .i) (omega arith) in (
+      omega arith,
+      simp length-set (l .inv .1),
+      ap₂ (λ (h : List ℤ) (v : ℤ). set h (l .i) v) (l .inv .2)
+          (toZ-ofZ {w = w32} {z = c .add-product .result} (record { sfits = c .add-product .ok }) ∙ c .add-product .ensures
+          ∙ ap₂ (λ (u v : ℤ). u +ℤ a *ℤ v)
+          (toZ-ofZ {w = w32} {z = getD (l .z) (l .i) (pos 0)} (record { sfits = c .before .before .add-product-arg .given }) ∙ e)
+          (toZ-ofZ {w = w16} {z = getD f (l .i) (pos 0)} (record { sfits = c .before .add-product-arg2 .given })))
+          ∙ added-next a z f (l .i) (omega arith) (omega arith),
+    )
 
 same-length : tie.Need-same-length Inv-loop μ-loop
 same-length c = search needs

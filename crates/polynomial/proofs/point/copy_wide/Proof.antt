@@ -14,7 +14,7 @@ use borrow.Author.Needs.{needs}
 use Rattle.algebra.proofs.List.{copy-more}
 use Rattle.polynomial.specs.Polynomial.{within}
 use Rattle.polynomial.proofs.Bound.{within-next}
-use Rattle.polynomial.proofs.Sign.{abs-below, widened}
+use Rattle.algebra.proofs.Signed.{abs-below, widened}
 use Rattle.polynomial.proofs.point.copy_wide.Statement.{statement}
 use Rattle.polynomial.proofs.point.copy_wide.Tie as tie
 
@@ -53,10 +53,12 @@ loop-again c =
     let s = c .before .before .before .before in
     let l = c .before .before .before .loop in
     let y = s .args .y .now in
-    let fits : SFits w16 (getD y (l .i) (pos 0)) = record { sfits = c .before .wide-arg .given } in
-    (omega arith, simp length-set (l .inv .1),
-     copy-more (l .z) y (l .i) _ (pos 0) (omega arith) (omega arith) (l .inv .2) (ap (λ (r : ℤ). toZ w32 (ofZ w32 r)) (c .wide .ensures) ∙ widened fits w32 tt),
-     within-next (2 ^ 15) y (l .i) (omega arith) (l .inv .3) (abs-below (getD y (l .i) (pos 0)) (fits .sfits)))
+    let fits : SFits w16 (getD y (l .i) (pos 0)) = record { sfits = c .before .wide-arg .given } in (
+      omega arith,
+      simp length-set (l .inv .1),
+      copy-more (l .z) y (l .i) _ (pos 0) (omega arith) (omega arith) (l .inv .2) (ap (λ (r : ℤ). toZ w32 (ofZ w32 r)) (c .wide .ensures) ∙ widened fits w32 tt),
+      within-next (2 ^ 15) y (l .i) (omega arith) (l .inv .3) (abs-below (getD y (l .i) (pos 0)) (fits .sfits)),
+    )
 
 same-length : tie.Need-same-length Inv-loop μ-loop
 same-length c = search needs
@@ -64,9 +66,10 @@ same-length c = search needs
 returns : tie.Need-returns Inv-loop μ-loop
 returns c =
     let l = c .before .loop in
-    let y = c .before .before .args .y .now in
-    (sym (take-all (l .i) (l .z) (omega arith)) ∙ l .inv .2 ∙ take-all (l .i) y (omega arith),
-     subst (λ (f : List ℤ). T (within (2 ^ 15) f)) (take-all (l .i) y (omega arith)) (l .inv .3))
+    let y = c .before .before .args .y .now in (
+      sym (take-all (l .i) (l .z) (omega arith)) ∙ l .inv .2 ∙ take-all (l .i) y (omega arith),
+      subst (λ (f : List ℤ). T (within (2 ^ 15) f)) (take-all (l .i) y (omega arith)) (l .inv .3),
+    )
 
 pub copy-wide-spec : {M : Type 1} → statement M
 copy-wide-spec =

@@ -45,11 +45,12 @@ loop-again : tie.Need-loop-again Inv-loop μ-loop
 loop-again c =
     let s = c .before .before .before .before in
     let l = c .before .before .before .loop in
-    let z = s .args .z .now in
-    (omega arith,
-     ap₂ (λ (u v : Bool). u && v) (l .inv .1)
-     (c .is-within .ensures ∙ ap (λ (a : ℤ). leb (natAbs a) (s .args .bound)) (toZ-ofZ {w = w32} {z = getD z (l .i) (pos 0)} (record { sfits = c .before .is-within-arg .given })))
-     ∙ sym (all-more (λ (a : ℤ). leb (natAbs a) (s .args .bound)) z (l .i) (pos 0) (omega arith)))
+    let z = s .args .z .now in (
+      omega arith,
+      ap₂ (λ (u v : Bool). u && v) (l .inv .1)
+          (c .is-within .ensures ∙ ap (λ (a : ℤ). leb (natAbs a) (s .args .bound)) (toZ-ofZ {w = w32} {z = getD z (l .i) (pos 0)} (record { sfits = c .before .is-within-arg .given })))
+          ∙ sym (all-more (λ (a : ℤ). leb (natAbs a) (s .args .bound)) z (l .i) (pos 0) (omega arith)),
+    )
 
 returns : tie.Need-returns Inv-loop μ-loop
 returns c =

@@ -5,7 +5,7 @@ use native.Mathlib.Omega.{arith}
 use lib.IntN.{ℤ, natAbs}
 use lib.Dec.{leb}
 use mir.Facts.{toZ-ofZ}
-use Rattle.polynomial.proofs.Sign.{negative, natural, complement-is, complement-read}
+use Rattle.algebra.proofs.Signed.{negative, natural, complement-is, complement-read}
 use Rattle.polynomial.proofs.point.is_within.Statement.{statement}
 use Rattle.polynomial.proofs.point.is_within.Tie as tie
 

@@ -42,12 +42,13 @@ add-rotated-requires c κs =
     let l = c .before .before .before .before .loop in
     let f = s .args .f .now in
     let e = s .args .c .now in
-    let y = s .args .y .now in
-    (omega (arith, ap length (l .inv .1), length-point f (take (l .i) e) y (omega arith)),
-     omega arith,
-     rw (l .inv .1) (within-mono (omega arith) (point f (take (l .i) e) y) (partial-within (2 ^ 15) (l .i) f e y (s .pre .1 .0) (s .pre .1 .1) (l .inv .2))),
-     s .pre .1 .0,
-     rw (toZ-ofZ {w = w8} {z = coefficient e (l .i)} (record { sfits = c .before .before .a .given })) (within-coefficient 1 e (l .i) (s .pre .1 .1)))
+    let y = s .args .y .now in (
+      omega (arith, ap length (l .inv .1), length-point f (take (l .i) e) y (omega arith)),
+      omega arith,
+      rw (l .inv .1) (within-mono (omega arith) (point f (take (l .i) e) y) (partial-within (2 ^ 15) (l .i) f e y (s .pre .1 .0) (s .pre .1 .1) (l .inv .2))),
+      s .pre .1 .0,
+      rw (toZ-ofZ {w = w8} {z = coefficient e (l .i)} (record { sfits = c .before .before .a .given })) (within-coefficient 1 e (l .i) (s .pre .1 .1)),
+    )
 
 add-i : tie.Need-add-i Inv-loop μ-loop
 add-i c = search needs
@@ -62,16 +63,17 @@ loop-again c =
     let f = s .args .f .now in
     let e = s .args .c .now in
     let y = s .args .y .now in
-    let fits : SFits w8 (coefficient e (l .i)) = record { sfits = c .before .a .given } in
-    (omega arith,
-     ⊎-elim
-     (λ w.
-      w .4 ∙ w .2 .ensures
-      ∙ ap₂ (λ (h : List ℤ) (a : ℤ). add h (scale a (rotations (l .i) f))) (l .inv .1) (toZ-ofZ fits)
-      ∙ point-next f e y (l .i) (omega arith))
-     (λ w. w .1 ∙ l .inv .1 ∙ point-skip f e y (l .i) (omega arith) (omega arith) (sym (toZ-ofZ fits) ∙ ap (toZ w8) (w .0 .left)))
-     (c .if1 .came),
-     l .inv .2)
+    let fits : SFits w8 (coefficient e (l .i)) = record { sfits = c .before .a .given } in (
+      omega arith,
+      ⊎-elim
+          (λ w.
+          w .4 ∙ w .2 .ensures
+          ∙ ap₂ (λ (h : List ℤ) (a : ℤ). add h (scale a (rotations (l .i) f))) (l .inv .1) (toZ-ofZ fits)
+          ∙ point-next f e y (l .i) (omega arith))
+          (λ w. w .1 ∙ l .inv .1 ∙ point-skip f e y (l .i) (omega arith) (omega arith) (sym (toZ-ofZ fits) ∙ ap (toZ w8) (w .0 .left)))
+          (c .if1 .came),
+      l .inv .2,
+    )
 
 same-length : tie.Need-same-length Inv-loop μ-loop
 same-length c =

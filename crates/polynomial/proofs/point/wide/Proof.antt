@@ -2,7 +2,7 @@
 -- Assumes nothing.
 use mir.Facts.{toZ-ofZ, sfits-widen}
 use mir.Syntax.{w16, w32}
-use Rattle.polynomial.proofs.Sign.{widened}
+use Rattle.algebra.proofs.Signed.{widened}
 use Rattle.polynomial.proofs.point.wide.Statement.{statement}
 use Rattle.polynomial.proofs.point.wide.Tie as tie
 

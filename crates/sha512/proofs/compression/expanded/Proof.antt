@@ -6,7 +6,8 @@ use native.Mathlib.Omega.{arith}
 use lib.ListN.{length, take}
 use lib.Seq.{take-all}
 use Rattle.sha512.specs.Compression.{expand}
-use Rattle.sha512.proofs.Loops.{grow-to, next-of-expand, expand-more}
+use Rattle.algebra.proofs.List.{grow-to}
+use Rattle.sha512.proofs.Loops.{next-of-expand, expand-more}
 use borrow.Author.Needs.{needs}
 use Rattle.sha512.proofs.compression.expanded.Statement.{statement}
 use Rattle.sha512.proofs.compression.expanded.Tie as tie

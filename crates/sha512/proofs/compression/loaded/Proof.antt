@@ -5,7 +5,8 @@ use Prim.Native.Nat.{_-_, _≤_}
 use native.Mathlib.Omega.{arith}
 use lib.ListN.{length, take}
 use Rattle.sha512.specs.Compression.{words}
-use Rattle.sha512.proofs.Loops.{grow-to, words-more}
+use Rattle.algebra.proofs.List.{grow-to}
+use Rattle.sha512.proofs.Loops.{words-more}
 use borrow.Author.Needs.{needs}
 use Rattle.sha512.proofs.compression.loaded.Statement.{statement}
 use Rattle.sha512.proofs.compression.loaded.Tie as tie

@@ -7,7 +7,8 @@ use lib.ListN.{length, take}
 use lib.Seq.{take-all}
 use Rattle.sha512.specs.Word.{add}
 use Rattle.sha512.specs.Compression.{sums}
-use Rattle.sha512.proofs.Loops.{grow-to, sums-more}
+use Rattle.algebra.proofs.List.{grow-to}
+use Rattle.sha512.proofs.Loops.{sums-more}
 use borrow.Author.Needs.{needs}
 use Rattle.sha512.proofs.compression.word_sums.Statement.{statement}
 use Rattle.sha512.proofs.compression.word_sums.Tie as tie

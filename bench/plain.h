@@ -1,0 +1,19 @@
+/* Plain C of the same methods, to measure the kit against. */
+#ifndef PLAIN_H
+#define PLAIN_H
+#include <stddef.h>
+#include <stdint.h>
+
+struct plain_set { size_t n; uint32_t q, g, k; size_t b, t; };
+extern const struct plain_set plain_sets[5];
+
+void plain_sha512(const uint8_t *message, size_t size, uint8_t digest[64]);
+/* the n powers of g modulo q */
+void plain_powers(const struct plain_set *s, uint32_t *powers);
+void plain_evaluate(const struct plain_set *s, const uint32_t *powers, const int16_t *coefficients, const uint16_t *points, size_t count, uint32_t *out);
+/* z = f * c + y, the product cyclic and c sparse */
+void plain_point(const struct plain_set *s, const int16_t *f, const int8_t *c, const int16_t *y, int32_t *z);
+/* the challenge of a commitment and a message: 1, or 0 where the pool is spent */
+int plain_challenge(const struct plain_set *s, const uint32_t *commitment, const uint8_t *message, size_t size, int8_t *c);
+
+#endif

@@ -1,0 +1,48 @@
+// Functions of the inner crates for C, for bench/ alone. The kit's own entries for C are those of passign_c.
+ghost use mathlib.Core.Path.{_≡_};
+ghost use mathlib.Core.List.{_++_};
+ghost use Prim.Native.Nat.{ℕ, _<_, _≤_};
+ghost use lib.Dec.{T};
+ghost use lib.ListN.{length, getD};
+ghost use Rattle.parameters.specs.Sets.{setOf};
+ghost use Rattle.polynomial.specs.Evaluation.{evaluations};
+ghost use Rattle.polynomial.specs.Polynomial.{point, ternary};
+ghost use Rattle.sha512.specs.Digest.{SHA-512};
+use parameters::params_of;
+use parameters::powers_of;
+
+#[no_mangle]
+pub extern "C" fn bench_sha512(message: &[u8], out: &mut [u8; 64])
+    ensures { λ _. ⌜ now (out .exit) ≡ SHA-512 (now (message .entry)) ⌝ }
+{
+    let d = sha512::sha512(message);
+    *out = d;
+}
+
+#[no_mangle]
+pub extern "C" fn bench_sha512_of_two(first: &[u8], second: &[u8], out: &mut [u8; 64])
+    ensures { λ _. ⌜ now (out .exit) ≡ SHA-512 (now (first .entry) ++ now (second .entry)) ⌝ }
+{
+    let d = sha512::sha512_of_two(first, second);
+    *out = d;
+}
+
+#[no_mangle]
+pub extern "C" fn bench_evaluate(set: u8, coefficients: &[i16], points: &[u16], out: &mut [u32])
+    requires { ⌜ (set < 5) × (length (now coefficients) ≡ setOf set .n) × (length (now out) ≡ length (now points)) × ((i : ℕ) → i < length (now points) → getD (now points) i 0 < setOf set .n) ⌝ }
+    ensures { λ _. ⌜ now (out .exit) ≡ evaluations (setOf set) (now (coefficients .entry)) (now (points .entry)) ⌝ }
+{
+    let p = params_of(set);
+    let n = p.n;
+    let table = powers_of(set);
+    polynomial::evaluation::evaluate(p, &table[..n], coefficients, points, out);
+}
+
+#[no_mangle]
+pub extern "C" fn bench_point(f: &[i16], c: &[i8], y: &[i16], z: &mut [i32])
+    requires { ⌜ (length (now f) ≤ 1153) × (length (now c) ≡ length (now f)) × (length (now y) ≡ length (now f)) × (length (now z) ≡ length (now f)) ⌝ }
+    requires { ⌜ T (ternary (now f)) × T (ternary (now c)) ⌝ }
+    ensures { λ _. ⌜ now (z .exit) ≡ point (now (f .entry)) (now (c .entry)) (now (y .entry)) ⌝ }
+{
+    polynomial::point::point_of(f, c, y, z);
+}

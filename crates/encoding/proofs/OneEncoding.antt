@@ -1,0 +1,171 @@
+-- Document 01, "Encodings": one meaning has one encoding. What is written is read back, and what is read is written back to the same bytes.
+-- Assumes nothing.
+use mathlib.Core.Path.{_≡_, refl, sym, ap, ap₂, _∙_}
+use mathlib.Core.List.{List, [], _∷_, _++_, map}
+use Prim.Native.Nat.{ℕ, zero, suc, _+_, _*_, _^_, _≤_, _<_}
+use native.Mathlib.Nat.{not-suc-le-zero}
+use native.Mathlib.Omega.{arith}
+use lib.Dec.{T, ltb, leb, eqb, leb→le}
+use lib.IntN.{ℤ, pos, negsuc, natAbs}
+use lib.ListN.{length, getD, take, drop, length-append, length-drop, length-map}
+use lib.Signed.{mag}
+use borrow.Author.Tests.{ne-eqb, eqb-true}
+use Rattle.algebra.proofs.Test.{by-test}
+use Rattle.parameters.specs.declared.Params.{Params}
+use Rattle.encoding.specs.Bytes.{numbers, encoded, bits16, signed16, areBelow, areTernary}
+use Rattle.encoding.specs.Challenge.{areEntries, challengeOf, entriesOf}
+use Rattle.encoding.specs.Encoding.{secretKeySize, isKeyByte, keyCoefficient, keyByte, secretKey, isKey, keyOf, publicKeySize, publicKey, PublicKeyRange, pointsOf, evaluationsOf, signatureSize, signatureBytes, SignatureRange, entriesRead, pointRead}
+use Rattle.encoding.proofs.Writing.{length-encoded}
+use Rattle.encoding.proofs.Inverse as inverse
+use Rattle.encoding.proofs.EntriesInverse as entries-inverse
+
+-- ---- numbers
+
+-- numbers of w bytes that are written, with any bytes behind them, are read back
+pub numbers-read-back : (w : ℕ) (vs rest : List ℕ) → T (areBelow (256 ^ w) vs) → numbers w (length vs) (encoded w vs ++ rest) ≡ vs
+numbers-read-back = inverse.numbers-of-encoded
+
+-- bytes that are read as numbers of w bytes are written back
+pub numbers-written-back : (w count : ℕ) (xs : List ℕ) → w * count ≤ length xs → T (areBelow 256 xs) → encoded w (numbers w count xs) ≡ take (w * count) xs
+numbers-written-back = inverse.encoded-of-numbers
+
+-- the same of 16 bits and the signed number that they are
+pub signed-read-back : (z : ℤ) → T (ltb (mag z) 32768) → signed16 (bits16 z) ≡ z
+signed-read-back = inverse.signed-of-bits
+
+pub signed-written-back : (v : ℕ) → T (ltb v 65536) → bits16 (signed16 v) ≡ v
+signed-written-back = inverse.bits-of-signed
+
+-- ---- a secret key
+
+coefficient-back : (z : ℤ) → T (leb (natAbs z) 1) → keyCoefficient (keyByte z) ≡ z
+coefficient-back (pos n) t = let h : n ≤ 1 = leb→le n 1 t in rw (ne-eqb n 255 (λ e. omega arith))
+coefficient-back (negsuc n) t = let h : suc n ≤ 1 = leb→le (suc n) 1 t in ap negsuc (omega arith)
+
+byte-of-key : (z : ℤ) → T (leb (natAbs z) 1) → T (isKeyByte (keyByte z))
+byte-of-key (pos zero) t = tt
+byte-of-key (pos (suc zero)) t = tt
+byte-of-key (pos (suc (suc n))) t = let h : suc (suc n) ≤ 1 = leb→le (suc (suc n)) 1 t in absurd (omega arith)
+byte-of-key (negsuc n) t = tt
+
+byte-back : (x : ℕ) → keyByte (keyCoefficient x) ≡ x
+byte-back x = by-test (eqb x 255) (λ e. rw e (sym (eqb-true x 255 e))) (λ e. rw e)
+
+bytes-back : (xs : List ℕ) → map keyByte (map keyCoefficient xs) ≡ xs
+bytes-back [] = refl
+bytes-back (x ∷ xs) = ap₂ (λ (y : ℕ) (l : List ℕ). y ∷ l) (byte-back x) (bytes-back xs)
+
+-- a key that is written has bytes that are allowed, and is read back
+pub key-accepted : (s : ℕ) (f : List ℤ) → T (areTernary f) → T (isKey (secretKey s f))
+unfolding isKey secretKey
+key-accepted s f t = inverse.all-map keyByte (λ (z : ℤ). leb (natAbs z) 1) isKeyByte byte-of-key f t
+
+pub key-read-back : (s : ℕ) (f : List ℤ) → T (areTernary f) → keyOf (secretKey s f) ≡ f
+unfolding keyOf secretKey
+key-read-back s f t = inverse.map-back keyByte keyCoefficient (λ (z : ℤ). leb (natAbs z) 1) coefficient-back f t
+
+-- bytes that are read as a key are written back
+pub key-written-back : (xs : List ℕ) → 0 < length xs → secretKey (getD xs 0 0) (keyOf xs) ≡ xs
+unfolding keyOf secretKey
+key-written-back [] h = absurd (not-suc-le-zero h)
+key-written-back (x ∷ xs) h = ap (λ (l : List ℕ). x ∷ l) (bytes-back xs)
+
+pub secret-key-length : (p : Params) (s : ℕ) (f : List ℤ) → length f ≡ p .n → length (secretKey s f) ≡ secretKeySize p
+unfolding secretKey
+secret-key-length p s f l = omega (arith, length-map f keyByte)
+
+-- ---- a public key
+
+module _ (p : Params) (s : ℕ) (points evaluations : List ℕ) (r : PublicKeyRange p points evaluations) where
+  -- its exponents and its evaluations are read back
+  pub points-read-back : pointsOf p (publicKey s points evaluations) ≡ points
+  unfolding pointsOf publicKey
+  points-read-back = inverse.read-first 2 (p .t) 3 (p .t) points (encoded 3 evaluations) (r .points-length) (r .points-below)
+
+  pub evaluations-read-back : evaluationsOf p (publicKey s points evaluations) ≡ evaluations
+  unfolding evaluationsOf publicKey
+  evaluations-read-back =
+      let e : 1 + 2 * p .t ≡ suc (2 * p .t) = omega arith in
+      rw e (inverse.read-second 2 (p .t) 3 (p .t) points evaluations (r .points-length) (r .evaluations-length) (r .evaluations-below))
+
+  pub public-key-length : length (publicKey s points evaluations) ≡ publicKeySize p
+  unfolding publicKey
+  public-key-length =
+      omega (arith, length-append (encoded 2 points) (encoded 3 evaluations), length-encoded 2 points, length-encoded 3 evaluations, r .points-length, r .evaluations-length)
+
+-- bytes that are read as a public key are written back
+pub public-key-written-back : (p : Params) (xs : List ℕ) → length xs ≡ publicKeySize p → T (areBelow 256 xs) → publicKey (getD xs 0 0) (pointsOf p xs) (evaluationsOf p xs) ≡ xs
+unfolding publicKey pointsOf evaluationsOf
+public-key-written-back p [] l t = absurd (omega arith)
+public-key-written-back p (x ∷ xs) l t =
+    let e : 1 + 2 * p .t ≡ suc (2 * p .t) = omega arith in
+    rw e (ap (λ (y : List ℕ). x ∷ y) (inverse.written-both 2 (p .t) 3 (p .t) xs (omega arith) (inverse.all-drop (λ (y : ℕ). ltb y 256) 1 (x ∷ xs) t)))
+
+-- ---- a signature
+
+module _ (p : Params) (s : ℕ) (entries : List ℕ) (z : List ℤ) (r : SignatureRange p entries z) where
+  -- its challenge entries and its point are read back
+  pub entries-read-back : entriesRead p (signatureBytes s entries z) ≡ entries
+  unfolding entriesRead signatureBytes
+  entries-read-back = inverse.read-first 2 (p .b) 2 (p .n) entries (encoded 2 (map bits16 z)) (r .entries-length) (r .entries-below)
+
+  pub point-read-back : pointRead p (signatureBytes s entries z) ≡ z
+  unfolding pointRead signatureBytes
+  point-read-back =
+      let e : 1 + 2 * p .b ≡ suc (2 * p .b) = omega arith in
+      let b : T (areBelow 65536 (map bits16 z)) = inverse.all-map bits16 (λ (y : ℤ). ltb (mag y) 32768) (λ (v : ℕ). ltb v 65536) inverse.bits-below z (r .point-signed) in
+      rw e
+      (ap (map signed16) (inverse.read-second 2 (p .b) 2 (p .n) entries (map bits16 z) (r .entries-length) (length-map z bits16 ∙ r .point-length) b)
+      ∙ inverse.map-back bits16 signed16 (λ (y : ℤ). ltb (mag y) 32768) inverse.signed-of-bits z (r .point-signed))
+
+  pub signature-length : length (signatureBytes s entries z) ≡ signatureSize p
+  unfolding signatureBytes
+  signature-length =
+      omega (
+        arith,
+        length-append (encoded 2 entries) (encoded 2 (map bits16 z)),
+        length-encoded 2 entries,
+        length-encoded 2 (map bits16 z),
+        length-map z bits16,
+        r .entries-length,
+        r .point-length,
+      )
+
+-- bytes that are read as a signature are written back
+pub signature-written-back : (p : Params) (xs : List ℕ) → length xs ≡ signatureSize p → T (areBelow 256 xs) → signatureBytes (getD xs 0 0) (entriesRead p xs) (pointRead p xs) ≡ xs
+unfolding signatureBytes entriesRead pointRead
+signature-written-back p [] l t = absurd (omega arith)
+signature-written-back p (x ∷ xs) l t =
+    let e : 1 + 2 * p .b ≡ suc (2 * p .b) = omega arith in
+    let bytes : T (areBelow 256 xs) = inverse.all-drop (λ (y : ℕ). ltb y 256) 1 (x ∷ xs) t in
+    let point : List ℕ = numbers 2 (p .n) (drop (2 * p .b) xs) in
+    let below : T (areBelow 65536 point) = inverse.numbers-below 2 (p .n) (drop (2 * p .b) xs) (omega (arith, length-drop (2 * p .b) xs)) (inverse.all-drop (λ (y : ℕ). ltb y 256) (2 * p .b) xs bytes) in
+    rw e
+    (ap (λ (y : List ℕ). x ∷ (encoded 2 (numbers 2 (p .b) xs) ++ encoded 2 y)) (inverse.map-back signed16 bits16 (λ (v : ℕ). ltb v 65536) inverse.bits-of-signed point below)
+    ∙ ap (λ (y : List ℕ). x ∷ y) (inverse.written-both 2 (p .b) 2 (p .n) xs (omega arith) bytes))
+
+-- two signatures with the same bytes are the same
+pub signature-injective : (p : Params) (s s' : ℕ) (entries entries' : List ℕ) (z z' : List ℤ) → SignatureRange p entries z → SignatureRange p entries' z'
+    → signatureBytes s entries z ≡ signatureBytes s' entries' z' → (s ≡ s') × (entries ≡ entries') × (z ≡ z')
+unfolding signatureBytes
+signature-injective p s s' entries entries' z z' r r' e = (
+  ap (λ (l : List ℕ). getD l 0 0) e,
+  sym (entries-read-back p s entries z r) ∙ ap (entriesRead p) e ∙ entries-read-back p s' entries' z' r',
+  sym (point-read-back p s entries z r) ∙ ap (pointRead p) e ∙ point-read-back p s' entries' z' r',
+)
+
+-- ---- a challenge
+
+-- the entries of a challenge are accepted, fit 16 bits, and give the challenge back
+pub entries-accepted : (c : List ℤ) → length c ≤ 32768 → T (areEntries (length c) (entriesOf c))
+entries-accepted c h = entries-inverse.entries-increasing (length c) h 0 c (omega arith)
+
+pub entries-below : (c : List ℤ) → length c ≤ 32768 → T (areBelow 65536 (entriesOf c))
+entries-below c h = entries-inverse.entries-below 0 c (omega arith)
+
+pub challenge-read-back : (c : List ℤ) → length c ≤ 32768 → T (areTernary c) → challengeOf (length c) (entriesOf c) ≡ c
+challenge-read-back c h t = entries-inverse.coefficients-of-entries (length c) h 0 c (omega arith) t
+
+-- entries that are accepted are those of their challenge
+pub entries-written-back : (n : ℕ) (es : List ℕ) → T (areEntries n es) → T (areBelow 65536 es) → entriesOf (challengeOf n es) ≡ es
+entries-written-back n es t b = entries-inverse.entries-of-coefficients n 0 n es (omega arith) t b

@@ -1,0 +1,50 @@
+-- Signed numbers read back from their bits, and 16 bits read as a signed number.
+-- Assumes nothing.
+use mathlib.Core.Path.{_≡_, refl, sym, ap, _∙_}
+use Prim.Native.Nat.{ℕ, zero, suc, _-_, _^_, _≤_, _<_}
+use native.Mathlib.Nat.{le-refl}
+use native.Mathlib.Omega.{arith}
+use lib.IntN.{ℤ, pos, negsuc, _-ℤ_, natAbs}
+use lib.Pow.{pow-pos}
+use lib.Signed.{mag}
+use mir.Syntax.{Width, w16, w32}
+use mir.Val.{SFits, toZ, ofZ, hbits}
+use mir.Facts.{toZ-ofZ, toZ-pos}
+use borrow.Author.Tests.{lt-ltb, le-ltb}
+use Rattle.encoding.specs.Bytes.{signed16}
+
+pub mag-le : (z : ℤ) → mag z ≤ natAbs z
+mag-le (pos n) = le-refl n
+mag-le (negsuc n) = omega arith
+
+-- -1 - n is -(n + 1)
+minus-positive : (n : ℕ) → negsuc 0 -ℤ pos n ≡ negsuc n
+minus-positive zero = refl
+minus-positive (suc n) = ap negsuc (omega arith)
+
+-- a signed number read back from its bits
+module _ (w : Width) (z : ℤ) (h : mag z < 2 ^ hbits w) where
+  pub reread : toZ w (ofZ w z) ≡ z
+  reread = toZ-ofZ {w = w} (record { sfits = h })
+
+  pub zero-bits : ofZ w z ≡ 0 → z ≡ pos 0
+  zero-bits e = sym reread ∙ ap (toZ w) e ∙ toZ-pos w (pow-pos (hbits w))
+
+-- a number of 16 bits, widened
+module _ (z : ℤ) (h : mag z < 2 ^ 15) where
+  pub widens : SFits w32 (toZ w16 (ofZ w16 z))
+  widens = rw (reread w16 z h) (record { sfits = omega arith })
+
+  pub widened : toZ w32 (ofZ w32 (toZ w16 (ofZ w16 z))) ≡ z
+  widened = toZ-ofZ {w = w32} widens ∙ reread w16 z h
+
+-- ---- 16 bits read as a signed number
+
+pub signed-low : (v : ℕ) → v < 32768 → pos v ≡ signed16 v
+signed-low v h = rw (lt-ltb v 32768 h)
+
+pub signed-high : (v : ℕ) → 32768 ≤ v → negsuc (65535 - v) ≡ signed16 v
+signed-high v h = rw (le-ltb v 32768 h)
+
+pub minus-bits : (v : ℕ) → 32768 ≤ v → negsuc 0 -ℤ toZ w16 (65535 - v) ≡ negsuc (65535 - v)
+minus-bits v h = ap (λ (y : ℤ). negsuc 0 -ℤ y) (toZ-pos w16 {n = 65535 - v} (omega arith)) ∙ minus-positive (65535 - v)

@@ -1,0 +1,66 @@
+-- `are_entries_of` tests one entry a turn.
+-- Assumes nothing.
+use mathlib.Core.Path.{_≡_, refl}
+use mathlib.Core.Bool.{_&&_}
+use Prim.Native.Nat.{_-_, _≤_}
+use lib.ListN.{length, drop}
+use Rattle.encoding.specs.Challenge.{increasing}
+use Rattle.encoding.proofs.Testing.{increasing-step, increasing-done}
+use borrow.Author.Needs.{needs}
+use native.Mathlib.Omega.{arith}
+use Rattle.encoding.proofs.challenge_entries.are_entries_of.Statement.{statement}
+use Rattle.encoding.proofs.challenge_entries.are_entries_of.Tie as tie
+
+abbrev Inv-loop : tie.InvT-loop
+Inv-loop entries n ok₀ from₀ k₀ ok from k = (k ≤ length entries) × (increasing n 0 entries ≡ (ok && increasing n from (drop k entries)))
+
+abbrev μ-loop : tie.MeasureT-loop
+μ-loop entries n ok₀ from₀ k₀ ok from k = length entries - k
+
+loop-holds : tie.Need-loop-holds Inv-loop μ-loop
+loop-holds c = (search needs, refl)
+
+mul-index-of : tie.Need-mul-index-of Inv-loop μ-loop
+mul-index-of c = omega arith
+
+shared-slice-read-index-of : tie.Need-shared-slice-read-index-of Inv-loop μ-loop
+shared-slice-read-index-of c = omega arith
+
+index-of-requires : tie.Need-index-of-requires Inv-loop μ-loop
+index-of-requires c κs = search needs
+
+is-next-index-requires : tie.Need-is-next-index-requires Inv-loop μ-loop
+is-next-index-requires c κs = search needs
+
+add-from : tie.Need-add-from Inv-loop μ-loop
+add-from c = omega arith
+
+add-k : tie.Need-add-k Inv-loop μ-loop
+add-k c = omega arith
+
+loop-less : tie.Need-loop-less Inv-loop μ-loop
+loop-less c = omega arith
+
+loop-again : tie.Need-loop-again Inv-loop μ-loop
+loop-again c = let l = c .before .before .before .before .loop in
+    (omega arith, increasing-step _ _ (l .from) (l .k) (l .ok) (omega arith) (l .inv .1) (c .before .index-of .ensures) (c .is-next-index .ensures))
+
+returns : tie.Need-returns Inv-loop μ-loop
+returns c = let l = c .before .loop in increasing-done _ _ (l .from) (l .k) (omega arith) (l .inv .1)
+
+pub are-entries-of-spec : {M : Type 1} → statement M
+are-entries-of-spec =
+    tie.close
+    (tie.spec
+    Inv-loop
+    μ-loop
+    loop-holds
+    mul-index-of
+    shared-slice-read-index-of
+    index-of-requires
+    is-next-index-requires
+    add-from
+    add-k
+    loop-less
+    loop-again
+    returns)

@@ -1,0 +1,56 @@
+-- `put_triple` stores three bytes.
+-- Assumes nothing.
+use mathlib.Core.Path.{_≡_}
+use Prim.Native.Nat.{suc, _+_}
+use native.Mathlib.Numerals.{add-one}
+use lib.ListN.{length-set}
+use Rattle.encoding.specs.Bytes.{bytesOf}
+use native.Mathlib.Omega.{arith}
+use Rattle.encoding.proofs.numbers.put_triple.Statement.{statement}
+use Rattle.encoding.proofs.numbers.put_triple.Tie as tie
+
+cast-out : tie.Need-cast-out
+cast-out c = omega arith
+
+slice-write-out : tie.Need-slice-write-out
+slice-write-out c = omega arith
+
+cast-out-2 : tie.Need-cast-out-2
+cast-out-2 c = omega arith
+
+add-out : tie.Need-add-out
+add-out c = omega arith
+
+slice-write-out-2 : tie.Need-slice-write-out-2
+slice-write-out-2 c = simp length-set (omega arith)
+
+cast-out-3 : tie.Need-cast-out-3
+cast-out-3 c = omega arith
+
+add-out-2 : tie.Need-add-out-2
+add-out-2 c = omega arith
+
+slice-write-out-3 : tie.Need-slice-write-out-3
+slice-write-out-3 c = simp length-set (omega arith)
+
+same-length : tie.Need-same-length
+same-length c = simp length-set
+
+returns : tie.Need-returns
+unfolding bytesOf
+returns c = let e : c .args .at + 2 ≡ suc (suc (c .args .at)) = omega arith in rw (add-one, e)
+
+pub put-triple-spec : {M : Type 1} → statement M
+put-triple-spec =
+    tie.close
+    (tie.spec
+    cast-out
+    slice-write-out
+    cast-out-2
+    add-out
+    slice-write-out-2
+    cast-out-3
+    add-out-2
+    slice-write-out-3
+    same-length
+    returns)

@@ -1,0 +1,69 @@
+-- `read_triples` reads one number a turn.
+-- Assumes nothing.
+use mathlib.Core.Path.{_≡_, refl}
+use Prim.Native.Nat.{ℕ, _-_, _≤_}
+use lib.ListN.{length, take, length-set}
+use Rattle.encoding.specs.Bytes.{numbers}
+use Rattle.algebra.proofs.List.{grow-to}
+use Rattle.encoding.proofs.Reading.{numbers-more, whole}
+use borrow.Author.Needs.{needs}
+use native.Mathlib.Omega.{arith}
+use Rattle.encoding.proofs.numbers.read_triples.Statement.{statement}
+use Rattle.encoding.proofs.numbers.read_triples.Tie as tie
+
+abbrev Inv-loop : tie.InvT-loop
+Inv-loop bytes out₀ i₀ out i = (i ≤ length out₀) × (length out ≡ length out₀) × (take i out ≡ numbers 3 i bytes)
+
+abbrev μ-loop : tie.MeasureT-loop
+μ-loop bytes out₀ i₀ out i = length out₀ - i
+
+loop-holds : tie.Need-loop-holds Inv-loop μ-loop
+unfolding numbers
+loop-holds c = (search needs, refl, refl)
+
+mul-triple-at : tie.Need-mul-triple-at Inv-loop μ-loop
+mul-triple-at c = omega arith
+
+triple-at-requires : tie.Need-triple-at-requires Inv-loop μ-loop
+triple-at-requires c κs = search needs
+
+mul-out : tie.Need-mul-out Inv-loop μ-loop
+mul-out c = omega arith
+
+slice-write-out : tie.Need-slice-write-out Inv-loop μ-loop
+slice-write-out c = omega arith
+
+add-i : tie.Need-add-i Inv-loop μ-loop
+add-i c = omega arith
+
+loop-less : tie.Need-loop-less Inv-loop μ-loop
+loop-less c = omega arith
+
+loop-again : tie.Need-loop-again Inv-loop μ-loop
+loop-again c = let l = c .before .before .loop in
+    (omega arith, simp length-set (l .inv .1), grow-to (l .out) (l .i) (omega arith) (l .inv .2) (c .triple-at .ensures) (numbers-more 3 (l .i) _))
+
+same-length : tie.Need-same-length Inv-loop μ-loop
+same-length c = c .before .loop .inv .1
+
+returns : tie.Need-returns Inv-loop μ-loop
+returns c = let l = c .before .loop in
+    let p = c .before .before .before .before .args in
+    whole (λ (k : ℕ). numbers 3 k (p .bytes .now)) (l .out) (l .i) (length (p .out .now)) (omega arith) (l .inv .1) (l .inv .2)
+
+pub read-triples-spec : {M : Type 1} → statement M
+read-triples-spec =
+    tie.close
+    (tie.spec
+    Inv-loop
+    μ-loop
+    loop-holds
+    mul-triple-at
+    triple-at-requires
+    mul-out
+    slice-write-out
+    add-i
+    loop-less
+    loop-again
+    same-length
+    returns)

@@ -1,0 +1,65 @@
+-- `write_words` writes one number a turn.
+-- Assumes nothing.
+use mathlib.Core.Path.{refl, sym, _∙_}
+use Prim.Native.Nat.{_-_, _≤_}
+use lib.ListN.{length}
+use Rattle.encoding.proofs.Writing.{Written, written-none, written-more, written-all}
+use borrow.Author.Needs.{needs}
+use native.Mathlib.Omega.{arith}
+use Rattle.encoding.proofs.numbers.write_words.Statement.{statement}
+use Rattle.encoding.proofs.numbers.write_words.Tie as tie
+
+abbrev Inv-loop : tie.InvT-loop
+Inv-loop values out₀ i₀ out i = (i ≤ length values) × Written 2 values out i
+
+abbrev μ-loop : tie.MeasureT-loop
+μ-loop values out₀ i₀ out i = length values - i
+
+loop-holds : tie.Need-loop-holds Inv-loop μ-loop
+loop-holds c = let s = c .before .before in (search needs, written-none 2 (s .args .values .now) (s .args .out .now) (s .pre))
+
+mul-put-word : tie.Need-mul-put-word Inv-loop μ-loop
+mul-put-word c = omega arith
+
+mul-put-word-2 : tie.Need-mul-put-word-2 Inv-loop μ-loop
+mul-put-word-2 c = omega arith
+
+shared-slice-read-put-word : tie.Need-shared-slice-read-put-word Inv-loop μ-loop
+shared-slice-read-put-word c = omega arith
+
+put-word-requires : tie.Need-put-word-requires Inv-loop μ-loop
+put-word-requires c κs = search needs
+
+add-i : tie.Need-add-i Inv-loop μ-loop
+add-i c = omega arith
+
+loop-less : tie.Need-loop-less Inv-loop μ-loop
+loop-less c = omega arith
+
+loop-again : tie.Need-loop-again Inv-loop μ-loop
+loop-again c = let l = c .before .before .before .before .before .before .loop in
+    (omega arith, written-more 2 _ (l .out) (l .i) (omega arith) (l .inv .1) refl (c .before .before .put-word .ensures))
+
+same-length : tie.Need-same-length Inv-loop μ-loop
+same-length c = c .before .loop .inv .1 .0 ∙ sym (c .before .before .before .before .pre)
+
+returns : tie.Need-returns Inv-loop μ-loop
+returns c = let l = c .before .loop in
+    written-all 2 _ (l .out) (l .i) (omega arith) (l .inv .1)
+
+pub write-words-spec : {M : Type 1} → statement M
+write-words-spec =
+    tie.close
+    (tie.spec
+    Inv-loop
+    μ-loop
+    loop-holds
+    mul-put-word
+    mul-put-word-2
+    shared-slice-read-put-word
+    put-word-requires
+    add-i
+    loop-less
+    loop-again
+    same-length
+    returns)

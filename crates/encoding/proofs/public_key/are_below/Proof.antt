@@ -1,0 +1,58 @@
+-- `are_below` tests one value a turn.
+-- Assumes nothing.
+use mathlib.Core.Path.{_≡_, refl}
+use Prim.Native.Nat.{ℕ, _-_, _≤_}
+use lib.Dec.{ltb}
+use lib.ListN.{length, take}
+use Rattle.algebra.specs.All.{all}
+use Rattle.encoding.proofs.Testing.{all-step, all-done}
+use borrow.Author.Needs.{needs}
+use native.Mathlib.Omega.{arith}
+use Rattle.encoding.proofs.public_key.are_below.Statement.{statement}
+use Rattle.encoding.proofs.public_key.are_below.Tie as tie
+
+abbrev Inv-loop : tie.InvT-loop
+Inv-loop values q ok₀ i₀ ok i = (i ≤ length values) × (ok ≡ all (λ (v : ℕ). ltb v q) (take i values))
+
+abbrev μ-loop : tie.MeasureT-loop
+μ-loop values q ok₀ i₀ ok i = length values - i
+
+loop-holds : tie.Need-loop-holds Inv-loop μ-loop
+loop-holds c = (search needs, refl)
+
+mul-is-below : tie.Need-mul-is-below Inv-loop μ-loop
+mul-is-below c = omega arith
+
+shared-slice-read-is-below : tie.Need-shared-slice-read-is-below Inv-loop μ-loop
+shared-slice-read-is-below c = omega arith
+
+is-below-requires : tie.Need-is-below-requires Inv-loop μ-loop
+is-below-requires c κs = search needs
+
+add-i : tie.Need-add-i Inv-loop μ-loop
+add-i c = omega arith
+
+loop-less : tie.Need-loop-less Inv-loop μ-loop
+loop-less c = omega arith
+
+loop-again : tie.Need-loop-again Inv-loop μ-loop
+loop-again c = let l = c .before .before .before .loop in
+    (omega arith, all-step (λ (v : ℕ). ltb v (c .before .before .before .before .before .args .q)) _ (l .i) 0 (omega arith) (l .inv .1) (c .is-below .ensures))
+
+returns : tie.Need-returns Inv-loop μ-loop
+returns c = let l = c .before .loop in all-done (λ (v : ℕ). ltb v (c .before .before .before .args .q)) _ (l .i) (omega arith) (l .inv .1)
+
+pub are-below-spec : {M : Type 1} → statement M
+are-below-spec =
+    tie.close
+    (tie.spec
+    Inv-loop
+    μ-loop
+    loop-holds
+    mul-is-below
+    shared-slice-read-is-below
+    is-below-requires
+    add-i
+    loop-less
+    loop-again
+    returns)

@@ -1,0 +1,54 @@
+-- `are_key_bytes` tests one byte a turn.
+-- Assumes nothing.
+use mathlib.Core.Path.{_≡_, refl}
+use Prim.Native.Nat.{_-_, _≤_}
+use lib.ListN.{length, take}
+use Rattle.algebra.specs.All.{all}
+use Rattle.encoding.specs.Encoding.{isKeyByte}
+use Rattle.encoding.proofs.Testing.{all-step, all-done}
+use borrow.Author.Needs.{needs}
+use native.Mathlib.Omega.{arith}
+use Rattle.encoding.proofs.secret_key.are_key_bytes.Statement.{statement}
+use Rattle.encoding.proofs.secret_key.are_key_bytes.Tie as tie
+
+abbrev Inv-loop : tie.InvT-loop
+Inv-loop bytes ok₀ i₀ ok i = (i ≤ length bytes) × (ok ≡ all isKeyByte (take i bytes))
+
+abbrev μ-loop : tie.MeasureT-loop
+μ-loop bytes ok₀ i₀ ok i = length bytes - i
+
+loop-holds : tie.Need-loop-holds Inv-loop μ-loop
+loop-holds c = (search needs, refl)
+
+shared-slice-read-is-key-byte : tie.Need-shared-slice-read-is-key-byte Inv-loop μ-loop
+shared-slice-read-is-key-byte c = omega arith
+
+is-key-byte-requires : tie.Need-is-key-byte-requires Inv-loop μ-loop
+is-key-byte-requires c κs = search needs
+
+add-i : tie.Need-add-i Inv-loop μ-loop
+add-i c = omega arith
+
+loop-less : tie.Need-loop-less Inv-loop μ-loop
+loop-less c = omega arith
+
+loop-again : tie.Need-loop-again Inv-loop μ-loop
+loop-again c = let l = c .before .before .before .loop in
+    (omega arith, all-step isKeyByte _ (l .i) 0 (omega arith) (l .inv .1) (c .is-key-byte .ensures))
+
+returns : tie.Need-returns Inv-loop μ-loop
+returns c = let l = c .before .loop in all-done isKeyByte _ (l .i) (omega arith) (l .inv .1)
+
+pub are-key-bytes-spec : {M : Type 1} → statement M
+are-key-bytes-spec =
+    tie.close
+    (tie.spec
+    Inv-loop
+    μ-loop
+    loop-holds
+    shared-slice-read-is-key-byte
+    is-key-byte-requires
+    add-i
+    loop-less
+    loop-again
+    returns)

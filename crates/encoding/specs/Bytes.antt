@@ -1,0 +1,65 @@
+-- Numbers as bytes: many-byte numbers have the high byte first, and signed 16-bit numbers are two's complement.
+-- Assumes nothing.
+use mathlib.Core.Bool.{Bool}
+use mathlib.Core.List.{List, [], _∷_, _++_, map}
+use Prim.Native.Nat.{ℕ, zero, suc, _+_, _-_, _*_, _/_, _%_}
+use lib.Dec.{ltb, leb}
+use lib.IntN.{ℤ, pos, negsuc, natAbs}
+use lib.ListN.{take, drop}
+use lib.Signed.{mag}
+use Rattle.algebra.specs.All.{all}
+use Rattle.algebra.specs.Choice.{pick}
+
+-- v in w bytes
+unfoldable pub bytesOf : ℕ → ℕ → List ℕ
+bytesOf zero v = []
+bytesOf (suc w) v = bytesOf w (v / 256) ++ (v % 256 ∷ [])
+
+-- the number that follows v when the bytes come after those of v
+abbrev pub valueAfter : ℕ → List ℕ → ℕ
+valueAfter v [] = v
+valueAfter v (x ∷ xs) = valueAfter (v * 256 + x) xs
+
+-- the number of these bytes
+abbrev pub valueOf : List ℕ → ℕ
+valueOf xs = valueAfter 0 xs
+
+-- the first `count` parts of l, each of `size` elements
+abbrev pub parts : {A : Type 0} → ℕ → ℕ → List A → List (List A)
+parts size zero l = []
+parts size (suc count) l = take size l ∷ parts size count (drop size l)
+
+-- lists one after the other
+abbrev pub joined : {A : Type 0} → List (List A) → List A
+joined [] = []
+joined (l ∷ ls) = l ++ joined ls
+
+-- `count` numbers of w bytes each, read from the front
+unfoldable pub numbers : ℕ → ℕ → List ℕ → List ℕ
+numbers w count xs = map valueOf (parts w count xs)
+
+-- the numbers, w bytes each
+unfoldable pub encoded : ℕ → List ℕ → List ℕ
+encoded w vs = joined (map (bytesOf w) vs)
+
+-- a signed 16-bit number as 16 bits, and back
+abbrev pub bits16 : ℤ → ℕ
+bits16 (pos n) = n
+bits16 (negsuc n) = 65535 - n
+
+abbrev pub signed16 : ℕ → ℤ
+signed16 v = pick (ltb v 32768) (pos v) (negsuc (65535 - v))
+
+-- ---- ranges
+
+-- each number is below n
+abbrev pub areBelow : ℕ → List ℕ → Bool
+areBelow n vs = all (λ (v : ℕ). ltb v n) vs
+
+-- each number is in -32768..32767
+abbrev pub areSigned16 : List ℤ → Bool
+areSigned16 zs = all (λ (z : ℤ). ltb (mag z) 32768) zs
+
+-- each number is -1, 0 or 1
+abbrev pub areTernary : List ℤ → Bool
+areTernary zs = all (λ (z : ℤ). leb (natAbs z) 1) zs

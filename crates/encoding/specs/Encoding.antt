@@ -1,0 +1,95 @@
+-- Document 01, "Encodings": the three encodings, written and read. An encoding's first byte is its set, s below.
+-- Assumes nothing.
+use mathlib.Core.Path.{_≡_}
+use mathlib.Core.Bool.{Bool, true, _&&_, _||_}
+use mathlib.Core.List.{List, [], _∷_, _++_, map}
+use Prim.Native.Nat.{ℕ, _+_, _*_}
+use lib.Dec.{T, ltb, eqb}
+use lib.IntN.{ℤ, pos, negsuc}
+use lib.ListN.{length, drop}
+use Rattle.algebra.specs.Choice.{pick}
+use Rattle.algebra.specs.All.{all}
+use Rattle.parameters.specs.declared.Params.{Params}
+use Rattle.encoding.specs.Bytes.{numbers, encoded, bits16, signed16, areBelow, areSigned16}
+
+-- ---- a secret key: the set byte, then N bytes, hex 00, 01 or FF for -1
+
+abbrev pub secretKeySize : Params → ℕ
+secretKeySize p = 1 + p .n
+
+abbrev pub isKeyByte : ℕ → Bool
+isKeyByte x = eqb x 0 || (eqb x 1 || eqb x 255)
+
+abbrev pub keyCoefficient : ℕ → ℤ
+keyCoefficient x = pick (eqb x 255) (negsuc 0) (pos x)
+
+abbrev pub keyByte : ℤ → ℕ
+keyByte (pos n) = n
+keyByte (negsuc n) = 255
+
+unfoldable pub secretKey : ℕ → List ℤ → List ℕ
+secretKey s f = s ∷ map keyByte f
+
+-- what is read: the key's bytes are allowed, and the key
+unfoldable pub isKey : List ℕ → Bool
+isKey xs = all isKeyByte (drop 1 xs)
+
+unfoldable pub keyOf : List ℕ → List ℤ
+keyOf xs = map keyCoefficient (drop 1 xs)
+
+-- ---- a public key: the set byte, t exponents of two bytes, t evaluations of three bytes
+
+abbrev pub publicKeySize : Params → ℕ
+publicKeySize p = 1 + 2 * p .t + 3 * p .t
+
+unfoldable pub publicKey : ℕ → List ℕ → List ℕ → List ℕ
+publicKey s points evaluations = s ∷ (encoded 2 points ++ encoded 3 evaluations)
+
+-- strictly increasing, each above `last` and below n
+abbrev pub rising : ℕ → ℕ → List ℕ → Bool
+rising n last [] = true
+rising n last (j ∷ js) = ltb last j && (ltb j n && rising n j js)
+
+-- exponents strictly increasing, each in 1..N-1
+abbrev pub arePoints : Params → List ℕ → Bool
+arePoints p js = rising (p .n) 0 js
+
+-- evaluations below q
+abbrev pub areEvaluations : Params → List ℕ → Bool
+areEvaluations p vs = all (λ (v : ℕ). ltb v (p .q)) vs
+
+-- lists that a public key has room for
+pub record PublicKeyRange (p : Params) (points evaluations : List ℕ) : Type 0 where
+  pub points-length : length points ≡ p .t
+  pub points-below : T (areBelow 65536 points)
+  pub evaluations-length : length evaluations ≡ p .t
+  pub evaluations-below : T (areBelow 16777216 evaluations)
+
+-- what is read: the exponents and the evaluations
+unfoldable pub pointsOf : Params → List ℕ → List ℕ
+pointsOf p xs = numbers 2 (p .t) (drop 1 xs)
+
+unfoldable pub evaluationsOf : Params → List ℕ → List ℕ
+evaluationsOf p xs = numbers 3 (p .t) (drop (1 + 2 * p .t) xs)
+
+-- ---- a signature: the set byte, b challenge entries of two bytes, N coefficients of two bytes
+
+abbrev pub signatureSize : Params → ℕ
+signatureSize p = 1 + 2 * p .b + 2 * p .n
+
+unfoldable pub signatureBytes : ℕ → List ℕ → List ℤ → List ℕ
+signatureBytes s entries z = s ∷ (encoded 2 entries ++ encoded 2 (map bits16 z))
+
+-- lists that a signature has room for
+pub record SignatureRange (p : Params) (entries : List ℕ) (z : List ℤ) : Type 0 where
+  pub entries-length : length entries ≡ p .b
+  pub entries-below : T (areBelow 65536 entries)
+  pub point-length : length z ≡ p .n
+  pub point-signed : T (areSigned16 z)
+
+-- what is read: the challenge entries and the point
+unfoldable pub entriesRead : Params → List ℕ → List ℕ
+entriesRead p xs = numbers 2 (p .b) (drop 1 xs)
+
+unfoldable pub pointRead : Params → List ℕ → List ℤ
+pointRead p xs = map signed16 (numbers 2 (p .n) (drop (1 + 2 * p .b) xs))

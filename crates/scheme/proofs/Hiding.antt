@@ -1,0 +1,49 @@
+-- Hiding: whatever signing accepts, every ternary key with the same public evaluations would have signed alike, by exactly one mask within k:
+-- the signature's z minus the product of that key and the signature's challenge. And the check says yes under that key too.
+-- Assumes nothing.
+use mathlib.Core.Path.{_≡_, refl, sym, ap, _∙_, subst}
+use mathlib.Core.Bool.{true}
+use mathlib.Core.List.{List, []}
+use mathlib.Core.Logic.{_↔_}
+use mathlib.Core.Option.{some}
+use Prim.Native.Nat.{ℕ, _<_}
+use lib.Dec.{T}
+use lib.IntN.{ℤ}
+use lib.ListN.{length, getD}
+use Rattle.parameters.specs.declared.Params.{Params}
+use Rattle.parameters.specs.Sound.{Sound}
+use Rattle.polynomial.specs.Polynomial.{sub, star, ternary}
+use Rattle.polynomial.specs.Evaluation.{evaluations}
+use Rattle.scheme.specs.Scheme.{Drawer, Signed, Draws, signing, verdict}
+use Rattle.scheme.specs.Hiding.{ExactlyOne, Gives}
+use Rattle.scheme.proofs.Attempt.{attempt-iff}
+use Rattle.scheme.proofs.FirstPassing.{first-passing}
+use Rattle.scheme.proofs.Correctness.{correctness}
+use Rattle.scheme.proofs.OtherMask.{other-only, other-gives}
+
+module _ (draw : Drawer) {p : Params} (sound : Sound p) (draws : Draws draw p) (points message : List ℕ)
+    -- an accepted signing with key f and masks ys
+    (f : List ℤ) (ys : List (List ℤ)) (r : Signed) (size-f : length f ≡ p .n) (size-ys : (i : ℕ) → i < length ys → length (getD ys i []) ≡ p .n)
+    (accepted : signing draw p points message 0 f ys ≡ some r)
+    -- another ternary key h with the same public evaluations
+    (h : List ℤ) (size-h : length h ≡ p .n) (ternary-h : T (ternary h)) (same : evaluations p h points ≡ evaluations p f points) where
+  -- a mask gives the same commitment and signature with h exactly when it is z - h ⋆ c
+  pub hiding-exactly : (y : List ℤ) → Gives draw p points message h (r .commitment) (r .signature) y ↔ (y ≡ sub (r .signature .z) (star h (r .signature .c)))
+  hiding-exactly y =
+      let w = first-passing draw p points message f ys r .0 accepted in
+      let signer = getD ys (r .passedOver) [] in
+      let a = attempt-iff draw p points message f signer (r .signature) .0 (w .passes) in
+      let g = other-gives draw p points message h size-h (r .signature) sound draws ternary-h f signer size-f (size-ys (r .passedOver) (w .offered)) same a in (
+        other-only draw p points message h size-h (r .signature) (r .commitment) y,
+        λ e. subst (Gives draw p points message h (r .commitment) (r .signature)) (sym e)
+            (subst (λ (c : List ℕ). Gives draw p points message h c (r .signature) (sub (r .signature .z) (star h (r .signature .c)))) (w .commits) g),
+      )
+
+  -- so exactly one mask does
+  unfoldable pub hiding : ExactlyOne (Gives draw p points message h (r .commitment) (r .signature))
+  hiding = record { it = sub (r .signature .z) (star h (r .signature .c)); does = hiding-exactly _ .1 refl; only = λ y. hiding-exactly y .0 }
+
+  -- and the check says yes to the signature under the public evaluations of h
+  pub hiding-verdict : verdict draw p points message (evaluations p h points) (r .signature) ≡ true
+  hiding-verdict =
+      ap (λ (vs : List ℕ). verdict draw p points message vs (r .signature)) same ∙ correctness draw sound points message f ys r size-f accepted

@@ -1,0 +1,11 @@
+pub mod Range
+pub mod FirstPassing
+pub mod Verdict
+pub mod Correctness
+pub mod Hiding
+pub mod Within
+pub mod Equal
+pub mod Attempt
+pub mod Commitment
+pub mod Search
+pub mod OtherMask

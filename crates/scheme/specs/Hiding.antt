@@ -1,0 +1,24 @@
+-- Demand 3 on polynomials: what it is for another mask to do what a signing did, and for exactly one to do so.
+-- Assumes nothing.
+use mathlib.Core.Path.{_≡_}
+use mathlib.Core.List.{List, [], _∷_}
+use mathlib.Core.Option.{some}
+use Prim.Native.Nat.{ℕ}
+use lib.Dec.{T}
+use lib.IntN.{ℤ}
+use lib.ListN.{length}
+use Rattle.parameters.specs.declared.Params.{Params}
+use Rattle.polynomial.specs.Polynomial.{within}
+use Rattle.scheme.specs.Scheme.{Drawer, Signature, signing}
+
+-- exactly one: it does, and whatever does is it
+pub record ExactlyOne {A : Type 0} (P : A → Type 0) : Type 0 where
+  pub it : A
+  pub does : P it
+  pub only : (a : A) → P a → a ≡ it
+
+-- the mask y is within k and, offered alone with the key f, gives this commitment and this signature
+pub record Gives (draw : Drawer) (p : Params) (points message : List ℕ) (f : List ℤ) (w : List ℕ) (s : Signature) (y : List ℤ) : Type 0 where
+  pub size : length y ≡ p .n
+  pub small : T (within (p .k) y)
+  pub signs : signing draw p points message 0 f (y ∷ []) ≡ some (record { passedOver = 0; commitment = w; signature = s })

@@ -1,0 +1,90 @@
+-- Signing and checking (PASSign paper, sections 3.2 and 3.3; document 01, "Signing and checking") on polynomials, for any parameter set
+-- and any way to draw a challenge from a commitment and a message.
+-- Assumes nothing.
+use mathlib.Core.Path.{_≡_}
+use mathlib.Core.Bool.{Bool, true, false, _&&_}
+use mathlib.Core.List.{List, [], _∷_}
+use mathlib.Core.Option.{Option, none, some}
+use Prim.Native.Nat.{ℕ, suc, _-_, _*_, _≤_}
+use lib.Dec.{T, eqb}
+use lib.IntN.{ℤ, pos, negsuc, _-ℤ_}
+use lib.ListN.{length}
+use Rattle.algebra.specs.Choice.{pick}
+use Rattle.algebra.specs.Integer.{residue}
+use Rattle.parameters.specs.declared.Params.{Params}
+use Rattle.polynomial.specs.Polynomial.{point, within, ternary, weight}
+use Rattle.polynomial.specs.Evaluation.{evaluation, evaluations}
+
+-- a way to draw: of a set, a commitment and a message a challenge, or none where the pool is spent
+abbrev pub Drawer : Type 0
+Drawer = Params → List ℕ → List ℕ → Option (List ℤ)
+
+-- a signature: the challenge c and the point z
+pub record Signature : Type 0 where
+  pub c : List ℤ
+  pub z : List ℤ
+
+-- an accepted signing: the number of masks passed over, the commitment of the mask that signed, and the signature
+pub record Signed : Type 0 where
+  pub passedOver : ℕ
+  pub commitment : List ℕ
+  pub signature : Signature
+
+-- the signature with challenge c, key f and mask y, where all of z = f ⋆ c + y is in -(k-b)..(k-b)
+abbrev pub inRange : Params → List ℤ → List ℤ → List ℤ → Option Signature
+inRange p f y c = pick (within (p .k - p .b) (point f c y)) (some (record { c = c; z = point f c y })) none
+
+-- a mask passes when its pool yields a challenge and z is in range
+abbrev pub withChallenge : Params → List ℤ → List ℤ → Option (List ℤ) → Option Signature
+withChallenge p f y none = none
+withChallenge p f y (some c) = inRange p f y c
+
+-- the signing by a mask that passes, n masks passed over before it; else what the masks after it give
+abbrev pub orElse : ℕ → List ℕ → Option Signature → Option Signed → Option Signed
+orElse n w (some s) rest = some (record { passedOver = n; commitment = w; signature = s })
+orElse n w none rest = rest
+
+-- a commitment from the check's side: at each point z's evaluation minus the product of the public and the challenge's evaluation, reduced to 0..q-1
+abbrev pub recovered : Params → Signature → List ℕ → List ℕ → List ℕ
+recovered p s [] vs = []
+recovered p s (j ∷ js) [] = []
+recovered p s (j ∷ js) (v ∷ vs) =
+    residue (pos (evaluation p (s .z) j) -ℤ pos (v * evaluation p (s .c) j)) (p .q) ∷ recovered p s js vs
+
+-- integers and polynomials are equal
+abbrev pub equalℤ : ℤ → ℤ → Bool
+equalℤ (pos a) (pos b) = eqb a b
+equalℤ (pos a) (negsuc b) = false
+equalℤ (negsuc a) (pos b) = false
+equalℤ (negsuc a) (negsuc b) = eqb a b
+
+abbrev pub equal : List ℤ → List ℤ → Bool
+equal [] [] = true
+equal [] (b ∷ d) = false
+equal (a ∷ c) [] = false
+equal (a ∷ c) (b ∷ d) = equalℤ a b && equal c d
+
+-- the drawn challenge exists and equals the given one
+abbrev pub isDrawn : Option (List ℤ) → List ℤ → Bool
+isDrawn none c = false
+isDrawn (some d) c = equal d c
+
+module _ (draw : Drawer) (p : Params) (points message : List ℕ) where
+  -- what the mask y gives with the key f: a signature if it passes
+  unfoldable pub attempt : List ℤ → List ℤ → Option Signature
+  attempt f y = withChallenge p f y (draw p (evaluations p y points) message)
+
+  -- the masks in order, n passed over before them; the first that passes signs
+  abbrev pub signing : ℕ → List ℤ → List (List ℤ) → Option Signed
+  signing n f [] = none
+  signing n f (y ∷ ys) = orElse n (evaluations p y points) (attempt f y) (signing (suc n) f ys)
+
+  -- the check of a signature against public evaluations: z in range, and the challenge of the recovered commitment is the given one
+  unfoldable pub verdict : List ℕ → Signature → Bool
+  verdict vs s = within (p .k - p .b) (s .z) && isDrawn (draw p (recovered p s points vs) message) (s .c)
+
+-- what theorems ask of a way to draw: a drawn challenge has N coefficients, each -1, 0 or 1, and absolute values summing to at most b
+pub record Draws (draw : Drawer) (p : Params) : Type 0 where
+  pub size : (w m : List ℕ) (c : List ℤ) → draw p w m ≡ some c → length c ≡ p .n
+  pub small : (w m : List ℕ) (c : List ℤ) → draw p w m ≡ some c → T (ternary c)
+  pub light : (w m : List ℕ) (c : List ℤ) → draw p w m ≡ some c → weight c ≤ p .b

@@ -1,0 +1,4 @@
+pub mod EntryCount
+pub mod Buffer
+pub mod Answer
+pub mod Offers

@@ -1,0 +1,4 @@
+pub mod Recovery
+pub mod Comparison
+pub mod Widening
+pub mod Verdict

@@ -1,0 +1,70 @@
+-- `wide_challenge` meets its contract: the loop copies one coefficient a turn.
+-- Assumes nothing.
+use mathlib.Core.Path.{_≡_, refl, _∙_}
+use Prim.Native.Nat.{_≤_, _-_}
+use native.Mathlib.Omega.{arith}
+use lib.ListN.{length, take, length-set}
+use lib.Seq.{take-length}
+use mir.Syntax.{w8, w16}
+use borrow.Author.Needs.{needs}
+use Rattle.verifier.proofs.Widening.{fits-wider, wider-more}
+use Rattle.verifier.proofs.wide_challenge.Statement.{statement}
+use Rattle.verifier.proofs.wide_challenge.Tie as tie
+
+abbrev Inv-loop : tie.InvT-loop
+Inv-loop c out₀ i₀ out i = (i ≤ length c) × (length out ≡ 1153) × (take i out ≡ take i c)
+
+abbrev μ-loop : tie.MeasureT-loop
+μ-loop c out₀ i₀ out i = length c - i
+
+loop-holds : tie.Need-loop-holds Inv-loop μ-loop
+loop-holds c = (search needs, search needs, refl)
+
+shared-slice-copy-out-out : tie.Need-shared-slice-copy-out-out Inv-loop μ-loop
+shared-slice-copy-out-out c = search needs
+
+cast-out : tie.Need-cast-out Inv-loop μ-loop
+cast-out c = fits-wider w8 w16 tt (c .before .before .before .args .c .now) (c .before .before .loop .i) (c .out .given)
+
+mul-out : tie.Need-mul-out Inv-loop μ-loop
+mul-out c = search needs
+
+array-set-from-out : tie.Need-array-set-from-out Inv-loop μ-loop
+array-set-from-out c = search needs
+
+add-i : tie.Need-add-i Inv-loop μ-loop
+add-i c = search needs
+
+loop-less : tie.Need-loop-less Inv-loop μ-loop
+loop-less c = search needs
+
+loop-again : tie.Need-loop-again Inv-loop μ-loop
+loop-again c =
+    let l = c .before .before .loop in (
+      omega arith,
+      simp length-set (l .inv .1),
+      wider-more w8 w16 tt (c .before .before .before .args .c .now) (l .i) (c .out .given) (l .out) (omega arith) (omega arith) (l .inv .2),
+    )
+
+returns : tie.Need-returns Inv-loop μ-loop
+returns c =
+    let l = c .before .loop in
+    let a = c .before .before .args .c .now in
+    let e : l .i ≡ length a = omega arith in
+    (rw e at (l .inv .2)) ∙ take-length a
+
+pub wide-challenge-spec : {M : Type 1} → statement M
+wide-challenge-spec =
+    tie.close
+    (tie.spec
+    Inv-loop
+    μ-loop
+    loop-holds
+    shared-slice-copy-out-out
+    cast-out
+    mul-out
+    array-set-from-out
+    add-i
+    loop-less
+    loop-again
+    returns)
