@@ -74,7 +74,7 @@ pub fn point_of(f: &[i16], c: &[i8], y: &[i16], z: &mut [i32])
 }
 
 // Whether a is in -bound..bound.
-fn is_within(a: i32, bound: u32) -> bool
+pub fn is_within(a: i32, bound: u32) -> bool
     ensures { λ r. ⌜ r ≡ leb (natAbs a) bound ⌝ }
 {
     if a < 0 {

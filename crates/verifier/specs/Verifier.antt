@@ -3,13 +3,11 @@
 use mathlib.Core.Path.{_≡_}
 use mathlib.Core.List.{List, [], _∷_}
 use Prim.Native.Nat.{ℕ, _*_, _^_, _<_, _≤_}
-use lib.Dec.{T}
 use lib.IntN.{ℤ, pos, _-ℤ_}
 use lib.ListN.{length, getD}
 use Rattle.algebra.specs.Integer.{residue}
 use Rattle.parameters.specs.declared.Params.{Params}
 use Rattle.parameters.specs.Sound.{Sound, Fitting, PowersOf}
-use Rattle.polynomial.specs.Polynomial.{ternary}
 
 pub record Checkable (p : Params) (powers points vs : List ℕ) (c z : List ℤ) : Type 0 where
   pub sound : Sound p
@@ -20,7 +18,6 @@ pub record Checkable (p : Params) (powers points vs : List ℕ) (c z : List ℤ)
   pub evaluations-size : length vs ≡ p .t
   pub evaluations-below : (i : ℕ) → i < length vs → getD vs i 0 < p .q
   pub challenge-size : length c ≡ p .n
-  pub challenge : T (ternary c)
   pub point-size : length z ≡ p .n
 
 -- of each place's evaluations of z, of the key and of the challenge: z minus the product, modulo q

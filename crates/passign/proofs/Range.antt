@@ -1,0 +1,41 @@
+-- Range: with a key and masks that `sign` does not refuse, the point z = f ⋆ c + y of every mask y and its challenge c is within k + b.
+-- Assumes nothing.
+use mathlib.Core.Path.{_≡_}
+use mathlib.Core.List.{List}
+use mathlib.Core.Option.{some}
+use Prim.Native.Nat.{ℕ, _+_}
+use lib.Dec.{T}
+use lib.IntN.{ℤ}
+use lib.ListN.{length}
+use Rattle.algebra.proofs.Test.{true-holds}
+use Rattle.parameters.specs.declared.Params.{Params}
+use Rattle.parameters.specs.Sets.{setOf}
+use Rattle.polynomial.specs.Polynomial.{point, within}
+use Rattle.polynomial.specs.Evaluation.{evaluations}
+use Rattle.challenge.specs.Draw.{drawChallenge}
+use Rattle.encoding.specs.Encoding.{keyOf}
+use Rattle.scheme.specs.Scheme.{Drawer, Draws}
+use Rattle.scheme.proofs.Range as polynomials
+use Rattle.passign.specs.Answer.{setByte}
+use Rattle.passign.specs.Sign.{signRefusalIn}
+use Rattle.passign.specs.Hiding.{maskAt}
+use Rattle.passign.proofs.Refusal.{sign-allowed}
+use Rattle.passign.proofs.Masks.{mask-small}
+use Rattle.passign.proofs.Encoded.{key-ternary}
+use Rattle.passign.proofs.FiveSets.{set-encodable}
+use Rattle.passign.proofs.FirstPassing.{SignUnrefused}
+
+pub range : {draw : Drawer} {p : Params} → Draws draw p → (key points : List ℕ) (masks : List ℤ) (message : List ℕ) (room : ℕ)
+    → signRefusalIn p key points masks room ≡ 0 → (i : ℕ) (c : List ℤ) → draw p (evaluations p (maskAt p masks i) points) message ≡ some c
+    → T (within (p .k + p .b) (point (keyOf key) c (maskAt p masks i)))
+range {draw} {p} draws key points masks message room allowed i c e =
+    let k = sign-allowed p key points masks room .0 allowed in
+    polynomials.range draws (evaluations p (maskAt p masks i) points) message (keyOf key) c (maskAt p masks i) (key-ternary key (k .ternary)) e
+    (mask-small p masks (true-holds (k .small)) i)
+
+-- the entry, in the five sets
+pub entry-range : (key points : List ℕ) (masks : List ℤ) (message out : List ℕ) → SignUnrefused key points masks message out
+    → (i : ℕ) (c : List ℤ) → drawChallenge (setOf (setByte key)) (evaluations (setOf (setByte key)) (maskAt (setOf (setByte key)) masks i) points) message ≡ some c
+    → T (within (setOf (setByte key) .k + setOf (setByte key) .b) (point (keyOf key) c (maskAt (setOf (setByte key)) masks i)))
+entry-range key points masks message out u =
+    range (set-encodable (setByte key) (u .known .set) .draws) key points masks message (length out) (u .allowed)

@@ -1,0 +1,169 @@
+-- What a session holds is never refused by the library's signing but with 9, nor by its check but with 12.
+-- Assumes nothing.
+use mathlib.Core.Path.{_≡_, refl, sym, ap, _∙_}
+use mathlib.Core.Bool.{Bool, true, false, not}
+use mathlib.Core.List.{List, [], _∷_, _++_}
+use mathlib.Core.Option.{Option, none, some}
+use Prim.Native.Nat.{ℕ, zero, suc, _*_, _%_, _+_, _<_, _≤_}
+use native.Mathlib.Nat.{mul-mod-left, suc-mul, zero-mul, mul-le-mul-right}
+use native.Mathlib.Omega.{arith}
+use lib.Dec.{T, ltb, leb, eqb, lt→ltb, ltb→lt, eqb→eq}
+use lib.IntN.{ℤ, natAbs}
+use lib.ListN.{length, getD, drop, take, length-append, length-replicate}
+use lib.Seq.{take-at, drop-drop, drop-at}
+use borrow.Author.Tests.{eq-eqb, ne-eqb, le-leb, lt-ltb, le-ltb}
+use Rattle.algebra.specs.Choice.{pick}
+use Rattle.algebra.specs.All.{all}
+use Rattle.algebra.proofs.All.{all-append, all-from, all-at}
+use Rattle.algebra.proofs.Test.{and-left, and-right, and-intro, holds-true, true-holds}
+use Rattle.parameters.specs.declared.Params.{Params}
+use Rattle.parameters.specs.Sets.{setOf}
+use Rattle.parameters.specs.Sound.{Fitting}
+use Rattle.parameters.proofs.Sound.{set-fitting}
+use Rattle.polynomial.specs.Polynomial.{within}
+use Rattle.challenge.specs.Draw.{drawChallenge}
+use Rattle.encoding.specs.Bytes.{joined}
+use Rattle.encoding.specs.Challenge.{areEntries}
+use Rattle.encoding.specs.Encoding.{isKey, keyOf, publicKeySize, publicKey, PublicKeyRange, signatureSize, entriesRead}
+use Rattle.encoding.proofs.Testing.{rising-below}
+use Rattle.encoding.proofs.OneEncoding.{public-key-length, points-read-back, evaluations-read-back}
+use Rattle.scheme.specs.Scheme.{Signed}
+use Rattle.signer.specs.Signer.{signedBy}
+use Rattle.passign.specs.declared.Signing.the-variants as signing
+use Rattle.passign.specs.declared.Verdict.the-variants as verdict
+use Rattle.passign.specs.Sign.{areMasks, signRefusalIn, signedAnswer, signAnswerIn, signAnswer}
+use Rattle.passign.specs.Check.{checkRefusalIn, checkVerdict, checkAnswerIn, checkAnswer}
+use Rattle.passign.specs.Hiding.{maskAt}
+use Rattle.passign.proofs.Apart.{refused-same, refused-not-signed, refused-not-yes, refused-not-no}
+use Rattle.passign.proofs.Refusal.{sign-allowed}
+use Rattle.passign.proofs.Entry.{Known, answer-entry}
+use Rattle.session_rules.specs.Commands.{signatureRoom}
+use Rattle.session_rules.proofs.Telling.{isMask, ArePoints, IsKey, AreEvaluations}
+
+-- ---- masks one after the other
+
+module _ (p : Params) where
+  -- the first mask, and those after it
+  first-mask : (y : List ℤ) (ys : List (List ℤ)) → T (all (isMask p) (y ∷ ys)) → (length y ≡ p .n) × (T (within (p .k) y) × T (all (isMask p) ys))
+  first-mask y ys t =
+      let m = and-left (isMask p y) (all (isMask p) ys) t in (
+        eqb→eq (length y) (p .n) (and-left (eqb (length y) (p .n)) (within (p .k) y) m),
+        (and-right (eqb (length y) (p .n)) (within (p .k) y) m, and-right (isMask p y) (all (isMask p) ys) t),
+      )
+
+  pub joined-length : (ys : List (List ℤ)) → T (all (isMask p) ys) → length (joined ys) ≡ length ys * p .n
+  joined-length [] t = sym (zero-mul (p .n))
+  joined-length (y ∷ ys) t =
+      let (size, (small, rest)) = first-mask y ys t in
+      length-append y (joined ys) ∙ omega (arith, size, joined-length ys rest, suc-mul (length ys) (p .n))
+
+  joined-within : (ys : List (List ℤ)) → T (all (isMask p) ys) → T (within (p .k) (joined ys))
+  joined-within [] t = tt
+  joined-within (y ∷ ys) t =
+      let (size, (small, rest)) = first-mask y ys t in
+      rw (all-append (λ (a : ℤ). leb (natAbs a) (p .k)) y (joined ys)) (and-intro (within (p .k) y) (within (p .k) (joined ys)) small (joined-within ys rest))
+
+  -- mask number i
+  pub joined-at : (ys : List (List ℤ)) (i : ℕ) → T (all (isMask p) ys) → i < length ys → maskAt p (joined ys) i ≡ getD ys i []
+  joined-at [] i t h = absurd (omega arith)
+  joined-at (y ∷ ys) zero t h = rw (zero-mul (p .n)) (take-at y (joined ys) (p .n) (first-mask y ys t .0))
+  joined-at (y ∷ ys) (suc i) t h =
+      let (size, (small, rest)) = first-mask y ys t in
+      let e : suc i * p .n ≡ p .n + i * p .n = omega (arith, suc-mul i (p .n)) in
+      ap (λ (k : ℕ). take (p .n) (drop k (y ++ joined ys))) e
+      ∙ ap (take (p .n)) (sym (drop-drop (i * p .n) (p .n) (y ++ joined ys)) ∙ ap (drop (i * p .n)) (drop-at y (joined ys) (p .n) size))
+      ∙ joined-at ys i rest (omega arith)
+
+  joined-masks : (ys : List (List ℤ)) → T (all (isMask p) ys) → length ys ≤ 8 → areMasks p (joined ys) ≡ true
+  joined-masks ys t few =
+      let l = joined-length ys t in
+      holds-true (areMasks p (joined ys))
+      (and-intro (eqb (length (joined ys) % p .n) 0) (leb (length (joined ys)) (8 * p .n))
+      (true-holds (eq-eqb (length (joined ys) % p .n) 0 (ap (λ (k : ℕ). k % p .n) l ∙ mul-mod-left (length ys) (p .n))))
+      (true-holds (le-leb (length (joined ys)) (8 * p .n) (omega (arith, l, mul-le-mul-right (p .n) few)))))
+
+-- ---- signing
+
+signed-or-nine : (o : Option Signed) (n : ℕ) → signedAnswer o ≡ signing.Refused n → n ≡ 9
+signed-or-nine none n e = sym (refused-same e)
+signed-or-nine (some r) n e = absurd (refused-not-signed (sym e))
+
+module _ (s : ℕ) (known : s < 5) where
+  abbrev p : Params
+  p = setOf s
+
+  module _ (key points : List ℕ) (masks : List (List ℤ)) (message : List ℕ)
+      (k : IsKey p key) (j : ArePoints p points) (t : T (all (isMask p) masks)) (few : length masks ≤ 8) (m : length message ≡ 64) where
+    known-key : Known (s ∷ key) message
+    known-key = record { message-size = omega arith; key-some = λ e. omega arith; set = known }
+
+    allowed : signRefusalIn p (s ∷ key) points (joined masks) (length (signatureRoom p)) ≡ 0
+    unfolding isKey
+    allowed = sign-allowed p (s ∷ key) points (joined masks) (length (signatureRoom p)) .1 (record {
+      key-size = omega (arith, k .size);
+      points-size = j .size;
+      masks-size = joined-masks p masks t few;
+      room-size = length-replicate (signatureSize p) 0;
+      points-rise = j .rise;
+      ternary = k .bytes;
+      small = holds-true (within (p .k) (joined masks)) (joined-within p masks t);
+    })
+
+    pub sign-refused : (n : ℕ) → signAnswer (s ∷ key) points (joined masks) message (signatureRoom p) ≡ signing.Refused n → n ≡ 9
+    unfolding signAnswerIn
+    sign-refused n e =
+        signed-or-nine (signedBy drawChallenge p (keyOf (s ∷ key)) points (joined masks) message) n (rw allowed at (sym (answer-entry (s ∷ key) points (joined masks) message (signatureRoom p) known-key) ∙ e))
+
+  -- ---- the check
+
+  module _ (points vs message op : List ℕ) (j : ArePoints p points) (v : AreEvaluations p vs) (m : length message ≡ 64)
+      (size : length op ≡ 2 * p .b + 2 * p .n) where
+    fitting : Fitting p
+    fitting = set-fitting s known
+
+    range : PublicKeyRange p points vs
+    range = record {
+      points-length = j .size;
+      points-below =
+          all-from (λ (x : ℕ). ltb x 65536) points 0
+          (λ i h. lt→ltb (getD points i 0) 65536 (omega (arith, rising-below (p .n) 0 points (true-holds (j .rise)) i h, fitting .size)));
+      evaluations-length = v .size;
+      evaluations-below =
+          all-from (λ (x : ℕ). ltb x 16777216) vs 0
+          (λ i h. lt→ltb (getD vs i 0) 16777216
+          (omega (arith, ltb→lt (getD vs i 0) (p .q) (all-at (λ (x : ℕ). ltb x (p .q)) vs 0 (true-holds (v .below)) i h), fitting .modulus)));
+    }
+
+    refusal : checkRefusalIn p (publicKey s points vs) (s ∷ op) ≡ pick (not (areEntries (p .n) (entriesRead p (s ∷ op)))) 12 0
+    unfolding checkRefusalIn
+    refusal =
+        rw (
+          eq-eqb (length (publicKey s points vs)) (publicKeySize p) (public-key-length p s points vs range),
+          eq-eqb (suc (length op)) (signatureSize p) (omega arith),
+          points-read-back p s points vs range,
+          evaluations-read-back p s points vs range,
+          j .rise,
+          v .below,
+        )
+
+    check-answer : checkAnswer (publicKey s points vs) message (s ∷ op) ≡ checkAnswerIn drawChallenge p (publicKey s points vs) message (s ∷ op)
+    unfolding checkAnswer publicKey
+    check-answer = rw (
+      le-ltb 65535 (length message) (omega arith),
+      ne-eqb (length (publicKey s points vs)) 0 (λ e. omega arith),
+      ne-eqb (length (s ∷ op)) 0 (λ e. omega arith),
+      lt-ltb s 5 known,
+      eq-eqb s s refl,
+    )
+
+    answered : (entries says : Bool) (n : ℕ)
+        → pick (eqb (pick (not entries) 12 0) 0) (pick says verdict.Yes verdict.No) (verdict.Refused (pick (not entries) 12 0)) ≡ verdict.Refused n → n ≡ 12
+    answered true true n e = absurd (refused-not-yes (sym e))
+    answered true false n e = absurd (refused-not-no (sym e))
+    answered false says n e = let f : 12 ≡ n = cc in sym f
+
+    pub check-refused : (n : ℕ) → checkAnswer (publicKey s points vs) message (s ∷ op) ≡ verdict.Refused n → n ≡ 12
+    unfolding checkAnswerIn
+    check-refused n e =
+        answered (areEntries (p .n) (entriesRead p (s ∷ op))) (checkVerdict drawChallenge p (publicKey s points vs) message (s ∷ op)) n
+        (rw refusal at (sym check-answer ∙ e))

@@ -1,0 +1,355 @@
+-- One command, played with what is held and told: what is held after it is what is told with it, what an accepted 06 signs with, what a refusal leaves,
+-- and how much it adds to its row.
+-- Assumes nothing.
+use mathlib.Core.Path.{_≡_, refl, sym, ap, _∙_}
+use mathlib.Core.Bool.{Bool, true, false, not, _&&_, _||_, true≢false}
+use mathlib.Core.List.{List, [], _∷_, _++_, map}
+use mathlib.Core.Option.{Option, none, some}
+use Prim.Native.Nat.{ℕ, zero, suc, _+_, _*_, _≤_, _<_}
+use native.Mathlib.Omega.{arith}
+use lib.Dec.{T, leb, eqb}
+use lib.IntN.{ℤ}
+use lib.ListN.{length, getD, drop, length-append, length-map, length-drop}
+use borrow.Author.Tests.{ltb-true, leb-false, le-leb, eqb-true, eqb-false, eq-eqb, ne-eqb, not-false}
+use Rattle.algebra.specs.Choice.{pick}
+use Rattle.algebra.specs.All.{all}
+use Rattle.algebra.proofs.All.{all-append}
+use Rattle.algebra.proofs.Test.{and-intro, true-holds, pick-by}
+use Rattle.parameters.specs.declared.Params.{Params}
+use Rattle.parameters.specs.Sets.{isSet}
+use Rattle.parameters.specs.Sound.{Fitting}
+use Rattle.parameters.proofs.Sound.{set-sound, set-fitting}
+use Rattle.polynomial.specs.Polynomial.{within}
+use Rattle.polynomial.specs.Evaluation.{evaluation, evaluations}
+use Rattle.encoding.specs.Bytes.{numbers, signed16, joined}
+use Rattle.encoding.specs.Encoding.{isKeyByte, keyCoefficient, arePoints, areEvaluations, publicKey}
+use Rattle.encoding.proofs.Inverse.{all-drop}
+use Rattle.passign.specs.declared.Signing.{Signing}
+use Rattle.passign.specs.declared.Signing.the-variants as signing
+use Rattle.passign.specs.declared.Verdict.{Verdict}
+use Rattle.passign.specs.declared.Verdict.the-variants as verdict
+use Rattle.passign.specs.Sign.{signAnswer, signWritten}
+use Rattle.passign.specs.Check.{checkAnswer}
+use Rattle.passign.proofs.Encoded.{public-key-read}
+use Rattle.session_rules.specs.Held.{Chosen, Held, withMasks}
+use Rattle.session_rules.specs.Commands.{Payload, nothing, signed, Done, accepted, refused, needing, chooseSet, keyEvaluations, maskOf, signatureRoom, loadPoints, loadKey, loadMask, loadMessage, afterSigning, sign, afterCheck, check, loadEvaluations, needsSet, operandSizeIn, operandSize, commandIn, command}
+use Rattle.session_rules.specs.Rows.{decimal, hex, spaced, payloadText}
+use Rattle.session_rules.specs.Play.{lacksSet}
+use Rattle.session_rules.specs.Plays.{Event, Told, withMasksTold, passedOver, keyTold, paramsTold, firstPassing, tellAccepted, tell}
+use Rattle.session_rules.proofs.Telling.{Holding, absent, holds, Kept, keepAccepted, keep, chosenTold, Tells, isMask, Fits}
+use Rattle.session_rules.proofs.Library.{sign-refused, check-refused}
+use Rattle.session_rules.proofs.Signature.{signature-size}
+use Rattle.session_rules.proofs.Text.{length-decimal, length-hex, length-numbers}
+
+-- the numbers that end a session: 1, 3, 13 to 16
+abbrev pub isEnding : ℕ → Bool
+isEnding n = eqb n 1 || (eqb n 3 || (leb 13 n && leb n 16))
+
+-- a command that was played; what is told does not look at its buffer
+abbrev pub played : ℕ → List ℕ → ℕ → Event
+played b op n = record { byte = b; operand = op; number = n; buffer = [] }
+
+-- the library's signing with what is told, its answer and its bytes
+module _ (t : Told) where
+  abbrev pub answerTold : Signing
+  answerTold = signAnswer (keyTold t) (t .points) (joined (t .masks)) (t .message) (signatureRoom (paramsTold t))
+
+  abbrev pub bytesTold : List ℕ
+  bytesTold = signWritten (keyTold t) (t .points) (joined (t .masks)) (t .message) (signatureRoom (paramsTold t))
+
+  -- it accepts, by mask number i, and the row has its bytes
+  pub record SignedTold (x : Payload) : Type 0 where
+    pub i : ℕ
+    pub answer : answerTold ≡ signing.Signed i
+    pub payload : x ≡ signed i bytesTold
+
+-- what a command does: what is held after it is told and as tested, an accepted 06 signs with what is told, a refusal leaves what is held (save that 9
+-- drops all masks) and has its number alone, the session goes on, and the row has room
+pub record Does (t : Told) (kept : Kept) (h : Held) (b : ℕ) (op : List ℕ) (d : Done) : Type 0 where
+  pub tells : Tells (tell t (played b op (d .number))) (keep t kept (played b op (d .number))) (d .held)
+  pub fits : Fits (paramsTold (tell t (played b op (d .number)))) (keep t kept (played b op (d .number))) (d .held)
+  pub signs : b ≡ 6 → d .number ≡ 0 → SignedTold t (d .payload)
+  pub leaves : (d .number ≡ 0 → ⊥) → d .held ≡ pick (eqb (d .number) 9) (withMasks [] h) h
+  pub alone : (d .number ≡ 0 → ⊥) → d .payload ≡ nothing
+  pub goes : isEnding (d .number) ≡ false
+  -- fewer than 1,153 evaluations of eleven bytes each, or a signature of at most 2,435 bytes in hex
+  pub short : length (payloadText (d .payload)) ≤ 12700
+
+-- ---- something needed is held
+
+needing-by : {A : Type 0} (P : Done → Type 0) {Q R : A → Type 0} {told : Bool} {o : Option A} {h : Held} {go : A → Done}
+    → Holding Q told o → Holding R told o → P (refused 10 h) → ((a : A) → Q a → R a → P (go a)) → P (needing o h go)
+needing-by P absent absent f g = f
+needing-by P (holds {a = a} q) (holds r) f g = g a q r
+
+length-numbers-read : (w count : ℕ) (xs : List ℕ) → length (numbers w count xs) ≡ count
+unfolding numbers
+length-numbers-read w zero xs = refl
+length-numbers-read w (suc count) xs = ap suc (length-numbers-read w count (drop w xs))
+
+length-evaluations : (p : Params) (points key : List ℕ) → length (keyEvaluations p points key) ≡ length points
+unfolding evaluations
+length-evaluations p points key = length-map points (evaluation p (map keyCoefficient key))
+
+-- ---- what is held and told with other masks
+
+tells-masks : {t : Told} {kept : Kept} {h : Held} → Tells t kept h → {ys zs : List (List ℤ)} → ys ≡ zs → Tells (withMasksTold t zs) kept (withMasks ys h)
+tells-masks w e = record { set = w .set; points = w .points; key = w .key; evaluations = w .evaluations; message = w .message; masks = e }
+
+fits-masks : {p : Params} {kept : Kept} {h : Held} → Fits p kept h → (ys : List (List ℤ)) → T (all (isMask p) ys) → length ys ≤ 8 → Fits p kept (withMasks ys h)
+fits-masks w ys m few = record {
+  set = w .set;
+  points = w .points;
+  key = w .key;
+  evaluations = w .evaluations;
+  message = w .message;
+  masks = m;
+  few = few;
+}
+
+-- ---- each command
+
+module _ (t : Told) (kept : Kept) (h : Held) (tells : Tells t kept h) (fits : Fits (paramsTold t) kept h) (op : List ℕ) where
+  -- a refusal other than 9 leaves all as it was
+  left : (b n : ℕ) → eqb n 0 ≡ false → eqb n 9 ≡ false → isEnding n ≡ false → Does t kept h b op (refused n h)
+  unfolding tell keep
+  left b n z q e = record {
+    tells = rw (z, q) tells;
+    fits = rw (z, q) fits;
+    signs = λ s a. absurd (eqb-false n 0 z a);
+    leaves = λ a. rw q;
+    alone = λ a. refl;
+    goes = e;
+    short = omega arith;
+  }
+
+  -- what is needed is not held
+  lacking : (b : ℕ) → Does t kept h b op (refused 10 h)
+  lacking b = left b 10 refl refl refl
+
+  -- an accepted command other than 06
+  taken : (b : ℕ) {next : Held} {x : Payload} → (b ≡ 6 → ⊥) → length (payloadText x) ≤ 12700
+      → Tells (tell t (played b op 0)) (keep t kept (played b op 0)) next → Fits (paramsTold (tell t (played b op 0))) (keep t kept (played b op 0)) next
+      → Does t kept h b op (accepted next x)
+  taken b other short tells fits = record {
+    tells = tells;
+    fits = fits;
+    signs = λ s a. absurd (other s);
+    leaves = λ a. absurd (a refl);
+    alone = λ a. absurd (a refl);
+    goes = refl;
+    short = short;
+  }
+
+  does-set : Does t kept h 1 op (chooseSet h op)
+  unfolding chooseSet tell tellAccepted keep keepAccepted
+  does-set =
+      pick-by (Does t kept h 1 op) (not (isSet (getD op 0 0))) (λ e. left 1 2 refl refl refl)
+      (λ e. taken 1 (λ s. omega arith) (omega arith)
+      (record { set = holds refl; points = absent; key = absent; evaluations = absent; message = absent; masks = refl })
+      (record {
+        set = holds (ltb-true (getD op 0 0) 5 (not-false (isSet (getD op 0 0)) e));
+        points = absent;
+        key = absent;
+        evaluations = absent;
+        message = absent;
+        masks = tt;
+        few = omega arith;
+      }))
+
+  -- in the set told
+  module _ (known : t .set < 5) where
+    abbrev p : Params
+    p = paramsTold t
+
+    abbrev c : Chosen
+    c = chosenTold t
+
+    fitting : Fitting p
+    fitting = set-fitting (t .set) known
+
+    does-points : Does t kept h 2 op (loadPoints c h op)
+    unfolding loadPoints tell tellAccepted keep keepAccepted
+    does-points =
+        pick-by (Does t kept h 2 op) (not (arePoints p (numbers 2 (p .t) op))) (λ e. left 2 4 refl refl refl)
+        (λ e. taken 2 (λ s. omega arith) (omega arith)
+        (record { set = tells .set; points = holds refl; key = absent; evaluations = absent; message = tells .message; masks = tells .masks })
+        (record {
+          set = fits .set;
+          points = holds (record { size = length-numbers-read 2 (p .t) op; rise = not-false (arePoints p (numbers 2 (p .t) op)) e });
+          key = absent;
+          evaluations = absent;
+          message = fits .message;
+          masks = fits .masks;
+          few = fits .few;
+        }))
+
+    does-key : length op ≡ p .n → Does t kept h 3 op (loadKey c h op)
+    unfolding loadKey tell tellAccepted keep keepAccepted
+    does-key size =
+        needing-by (Does t kept h 3 op) (tells .points) (fits .points) (lacking 3)
+        (λ points q j. pick-by (Does t kept h 3 op) (not (all isKeyByte op)) (λ e. left 3 5 refl refl refl)
+        (λ e. taken 3 (λ s. omega arith)
+        (omega (arith, length-numbers (keyEvaluations p points op), length-evaluations p points op, j .size, fitting .points, fitting .size))
+        (record {
+          set = tells .set;
+          points = tells .points;
+          key = holds refl;
+          evaluations = holds (ap (λ (l : List ℕ). keyEvaluations p l op) q);
+          message = tells .message;
+          masks = tells .masks;
+        })
+        (record {
+          set = fits .set;
+          points = fits .points;
+          key = holds (record { size = size; bytes = not-false (all isKeyByte op) e });
+          evaluations = holds (record {
+            size = length-evaluations p points op ∙ j .size;
+            below = public-key-read (set-sound (t .set) known) fitting (t .set) (map keyCoefficient op) points (j .size) (j .rise) .evaluations-allowed;
+          });
+          message = fits .message;
+          masks = fits .masks;
+          few = fits .few;
+        })))
+
+    -- a mask read and within k is one
+    mask-read : within (p .k) (maskOf p op) ≡ true → T (isMask p (maskOf p op))
+    mask-read e =
+        let size = length-map (numbers 2 (p .n) op) signed16 ∙ length-numbers-read 2 (p .n) op in
+        and-intro (eqb (length (maskOf p op)) (p .n)) (within (p .k) (maskOf p op)) (true-holds (eq-eqb (length (maskOf p op)) (p .n) size)) (true-holds e)
+
+    does-mask : Does t kept h 4 op (loadMask c h op)
+    unfolding loadMask tell tellAccepted keep keepAccepted
+    does-mask =
+        let more = maskOf p op ∷ [] in
+        pick-by (Does t kept h 4 op) (leb 8 (length (h .masks))) (λ e. left 4 8 refl refl refl)
+        (λ f. pick-by (Does t kept h 4 op) (not (within (p .k) (maskOf p op))) (λ e. left 4 6 refl refl refl)
+        (λ e. taken 4 (λ s. omega arith) (omega arith)
+        (tells-masks tells (ap (λ (l : List (List ℤ)). l ++ more) (tells .masks)))
+        (fits-masks fits (h .masks ++ more)
+        (rw (all-append (isMask p) (h .masks) more)
+        (and-intro (all (isMask p) (h .masks)) (all (isMask p) more) (fits .masks) (and-intro (isMask p (maskOf p op)) true (mask-read (not-false (within (p .k) (maskOf p op)) e)) tt)))
+        (omega (arith, length-append (h .masks) more, leb-false 8 (length (h .masks)) f)))))
+
+    does-message : length op ≡ 64 → Does t kept h 5 op (loadMessage c h op)
+    unfolding loadMessage tell tellAccepted keep keepAccepted
+    does-message size =
+        taken 5 (λ s. omega arith) (omega arith)
+        (record { set = tells .set; points = tells .points; key = tells .key; evaluations = tells .evaluations; message = holds refl; masks = tells .masks })
+        (record {
+          set = fits .set;
+          points = fits .points;
+          key = fits .key;
+          evaluations = fits .evaluations;
+          message = holds size;
+          masks = fits .masks;
+          few = fits .few;
+        })
+
+    -- the library answers with what is held, which is what is told
+    after-answer : (a : Signing) (bytes : List ℕ) → answerTold t ≡ a → bytes ≡ bytesTold t → ((n : ℕ) → answerTold t ≡ signing.Refused n → n ≡ 9)
+        → Does t kept h 6 op (afterSigning c h a bytes)
+    unfolding tell tellAccepted keep keepAccepted firstPassing
+    after-answer (signing.Signed i) bytes e w nine = record {
+      tells = tells-masks tells (ap (drop (suc i)) (tells .masks) ∙ ap (λ (x : Signing). drop (suc (passedOver (t .masks) x)) (t .masks)) (sym e));
+      fits = fits-masks fits (drop (suc i) (h .masks)) (all-drop (isMask p) (suc i) (h .masks) (fits .masks)) (omega (arith, length-drop (suc i) (h .masks), fits .few));
+      signs = λ s z. record { i = i; answer = e; payload = ap (signed i) w };
+      leaves = λ a. absurd (a refl);
+      alone = λ a. absurd (a refl);
+      goes = refl;
+      short =
+          omega (
+            arith,
+            length-append (spaced (decimal i)) (spaced (hex bytes)),
+            length-decimal i,
+            length-hex bytes,
+            ap length w,
+            signature-size (keyTold t) (t .points) (joined (t .masks)) (t .message) (signatureRoom p) e,
+            fitting .size,
+            fitting .weight,
+          );
+    }
+    after-answer (signing.Refused n) bytes e w nine =
+        rw (nine n e) (record {
+          tells = tells-masks tells refl;
+          fits = fits-masks fits [] tt (omega arith);
+          signs = λ s z. absurd (omega arith);
+          leaves = λ a. refl;
+          alone = λ a. refl;
+          goes = refl;
+          short = omega arith;
+        })
+
+    does-sign : Does t kept h 6 op (sign c h)
+    unfolding sign
+    does-sign =
+        needing-by (Does t kept h 6 op) (tells .points) (fits .points) (lacking 6)
+        (λ points jq j. needing-by (Does t kept h 6 op) (tells .key) (fits .key) (lacking 6)
+        (λ key kq k. needing-by (Does t kept h 6 op) (tells .message) (fits .message) (lacking 6)
+        (λ message mq m.
+        let same : answerTold t ≡ signAnswer (t .set ∷ key) points (joined (h .masks)) message (signatureRoom p) =
+        rw (jq, kq, mq, tells .masks) in
+        after-answer (signAnswer (t .set ∷ key) points (joined (h .masks)) message (signatureRoom p))
+        (signWritten (t .set ∷ key) points (joined (h .masks)) message (signatureRoom p)) same (rw (jq, kq, mq, tells .masks))
+        (λ n e. sign-refused (t .set) known key points (h .masks) message k j (fits .masks) (fits .few) m n (sym same ∙ e)))))
+
+    after-check : (a : Verdict) → ((n : ℕ) → a ≡ verdict.Refused n → n ≡ 12) → Does t kept h 7 op (afterCheck c h a)
+    unfolding tell tellAccepted keep keepAccepted
+    after-check verdict.Yes twelve = taken 7 (λ s. omega arith) (omega (arith, length-decimal 1)) tells fits
+    after-check verdict.No twelve = taken 7 (λ s. omega arith) (omega (arith, length-decimal 0)) tells fits
+    after-check (verdict.Refused n) twelve = rw (twelve n refl) (left 7 12 refl refl refl)
+
+    does-check : length op ≡ 2 * p .b + 2 * p .n → Does t kept h 7 op (check c h op)
+    unfolding check
+    does-check size =
+        needing-by (Does t kept h 7 op) (tells .points) (fits .points) (lacking 7)
+        (λ points jq j. needing-by (Does t kept h 7 op) (tells .evaluations) (fits .evaluations) (lacking 7)
+        (λ ws vq v. needing-by (Does t kept h 7 op) (tells .message) (fits .message) (lacking 7)
+        (λ message mq m.
+        after-check (checkAnswer (publicKey (t .set) points ws) message (t .set ∷ op)) (check-refused (t .set) known points ws message op j v m size))))
+
+    does-evaluations : Does t kept h 8 op (loadEvaluations c h op)
+    unfolding loadEvaluations tell tellAccepted keep keepAccepted
+    does-evaluations =
+        needing-by (Does t kept h 8 op) (tells .points) (fits .points) (lacking 8)
+        (λ points jq j. pick-by (Does t kept h 8 op) (not (areEvaluations p (numbers 3 (p .t) op))) (λ e. left 8 7 refl refl refl)
+        (λ e. taken 8 (λ s. omega arith) (omega arith)
+        (record { set = tells .set; points = tells .points; key = absent; evaluations = holds refl; message = tells .message; masks = tells .masks })
+        (record {
+          set = fits .set;
+          points = fits .points;
+          key = absent;
+          evaluations = holds (record { size = length-numbers-read 3 (p .t) op; below = not-false (areEvaluations p (numbers 3 (p .t) op)) e });
+          message = fits .message;
+          masks = fits .masks;
+          few = fits .few;
+        })))
+
+    does-in-set : (b : ℕ) → 1 < b → b < 9 → length op ≡ operandSizeIn p b → Does t kept h b op (commandIn c h b op)
+    does-in-set b low high size =
+        pick-by (Does t kept h b op) (eqb b 2) (λ e. rw (eqb-true b 2 e) does-points)
+        (λ n2. pick-by (Does t kept h b op) (eqb b 3) (λ e. rw (eqb-true b 3 e) (does-key (rw (eqb-true b 3 e) at size)))
+        (λ n3. pick-by (Does t kept h b op) (eqb b 4) (λ e. rw (eqb-true b 4 e) does-mask)
+        (λ n4. pick-by (Does t kept h b op) (eqb b 5) (λ e. rw (eqb-true b 5 e) (does-message (rw (eqb-true b 5 e) at size)))
+        (λ n5. pick-by (Does t kept h b op) (eqb b 6) (λ e. rw (eqb-true b 6 e) does-sign)
+        (λ n6. pick-by (Does t kept h b op) (eqb b 7) (λ e. rw (eqb-true b 7 e) (does-check (rw (eqb-true b 7 e) at size)))
+        (λ n7.
+        let last : b ≡ 8 = omega (arith, eqb-false b 2 n2, eqb-false b 3 n3, eqb-false b 4 n4, eqb-false b 5 n5, eqb-false b 6 n6, eqb-false b 7 n7) in
+        rw last does-evaluations))))))
+
+  -- 02 to 08, in the set in force
+  abbrev inForce : ℕ → Option Chosen → Done
+  inForce b o = elim o [ none ↦ refused 3 h | some x ↦ commandIn x h b op ]
+
+  does-in-force : (b : ℕ) → 1 < b → b < 9 → {told : Bool} (o : Option Chosen) → Holding (λ (x : Chosen). x ≡ chosenTold t) told o → Holding (λ (x : Chosen). x .byte < 5) told o
+      → needsSet b && lacksSet o ≡ false → length op ≡ operandSize o b → Does t kept h b op (inForce b o)
+  does-in-force b low high none absent absent needs size = absurd (true≢false (rw (le-leb 2 b low) at needs))
+  does-in-force b low high (some x) (holds e) (holds known) needs size =
+      rw e (does-in-set (rw e at known) b low high (rw (ne-eqb b 1 (λ q. omega arith), e) at size))
+
+  -- 01 to 08, with an operand of its size
+  pub does : (b : ℕ) → 0 < b → b < 9 → needsSet b && lacksSet (h .set) ≡ false → length op ≡ operandSize (h .set) b → Does t kept h b op (command h b op)
+  unfolding command
+  does b low high needs size =
+      pick-by (Does t kept h b op) (eqb b 1) (λ e. rw (eqb-true b 1 e) does-set)
+      (λ e. does-in-force b (omega (arith, eqb-false b 1 e)) high (h .set) (tells .set) (fits .set) needs size)

@@ -1,0 +1,5 @@
+pub mod Held
+pub mod Commands
+pub mod Rows
+pub mod Play
+pub mod Plays

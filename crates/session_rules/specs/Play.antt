@@ -1,0 +1,139 @@
+-- A session and one play of it: tests in the document's order, the session after it, and the row.
+-- Assumes nothing.
+use mathlib.Core.Bool.{Bool, true, false, not, _&&_}
+use mathlib.Core.List.{List, []}
+use mathlib.Core.Option.{Option, none, some}
+use Prim.Native.Nat.{ℕ, _+_, _%_, _^_}
+use lib.Dec.{ltb, leb, eqb}
+use lib.ListN.{length, getD, take, drop}
+use Rattle.algebra.specs.Choice.{pick}
+use Rattle.session_rules.specs.Held.{Chosen, Held, onlySet}
+use Rattle.session_rules.specs.Commands.{Payload, nothing, Done, isKnown, needsSet, operandSize, command}
+use Rattle.session_rules.specs.Rows.{rowText, atFront}
+
+-- whether the first play is done, whether the session has ended, its place in the file, its row count, and what is held
+pub record Session : Type 0 where
+  pub started : Bool
+  pub ended : Bool
+  pub place : ℕ
+  pub rows : ℕ
+  pub held : Held
+
+-- a session just opened
+unfoldable pub opened : Session
+opened = record { started = false; ended = false; place = 0; rows = 0; held = onlySet none }
+
+-- what a play of a session that has not ended gives: the session after it, and the row's fields with the operand that was read
+pub record Step : Type 0 where
+  pub session : Session
+  pub ordinal : ℕ
+  pub byte : ℕ
+  pub operand : List ℕ
+  pub number : ℕ
+  pub payload : Payload
+
+-- a session file opens with the four bytes hex 50 53 47 31
+unfoldable pub isTagged : List ℕ → Bool
+isTagged file =
+    leb 4 (length file) && (eqb (getD file 0 0) 0x50 && (eqb (getD file 1 0) 0x53 && (eqb (getD file 2 0) 0x47 && eqb (getD file 3 0) 0x31)))
+
+-- no set is in force
+abbrev pub lacksSet : Option Chosen → Bool
+lacksSet none = true
+lacksSet (some c) = false
+
+-- the ordinal of the next row, from 1; a count of 32 bits, which no file of 65,536 bytes exhausts
+abbrev pub nextOrdinal : ℕ → ℕ
+nextOrdinal rows = (rows + 1) % 2 ^ 32
+
+module _ (s : Session) where
+  -- a row that ends the session, before the first command: ordinal 0 and byte 00
+  abbrev pub endsBefore : ℕ → Step
+  endsBefore number =
+      record {
+        session = record { started = true; ended = true; place = s .place; rows = s .rows; held = s .held };
+        ordinal = 0;
+        byte = 0;
+        operand = [];
+        number = number;
+        payload = nothing;
+      }
+
+  -- the row of a command that ends the session
+  abbrev pub endsAt : ℕ → ℕ → ℕ → Step
+  endsAt place byte number =
+      record {
+        session = record { started = true; ended = true; place = place; rows = nextOrdinal (s .rows); held = s .held };
+        ordinal = nextOrdinal (s .rows);
+        byte = byte;
+        operand = [];
+        number = number;
+        payload = nothing;
+      }
+
+  -- a command that goes on behind its operand
+  abbrev pub goesOn : ℕ → ℕ → List ℕ → Done → Step
+  goesOn next byte operand d =
+      record {
+        session = record { started = true; ended = false; place = next; rows = nextOrdinal (s .rows); held = d .held };
+        ordinal = nextOrdinal (s .rows);
+        byte = byte;
+        operand = operand;
+        number = d .number;
+        payload = d .payload;
+      }
+
+  module _ (file : List ℕ) (at : ℕ) where
+    -- the command byte due at a place, the size of its operand, and the operand
+    abbrev pub byteDue : ℕ
+    byteDue = getD file at 0
+
+    abbrev pub sizeDue : ℕ
+    sizeDue = operandSize (s .held .set) byteDue
+
+    abbrev pub operandDue : List ℕ
+    operandDue = take sizeDue (drop (at + 1) file)
+
+    -- 00 ends the session: accepted where nothing follows, else 16
+    abbrev pub endCommand : Step
+    endCommand = endsAt (at + 1) 0 (pick (eqb (length file) (at + 1)) 0 16)
+
+    -- the command due there: 13 (byte 00) where the file ends, 14, 3, 13 inside an operand, then its own
+    unfoldable pub commandStep : Step
+    commandStep =
+        pick (leb (length file) at) (endsAt at 0 13)
+        (pick (not (isKnown byteDue)) (endsAt at byteDue 14)
+        (pick (needsSet byteDue && lacksSet (s .held .set)) (endsAt at byteDue 3)
+        (pick (ltb (length file) (at + 1 + sizeDue)) (endsAt at byteDue 13)
+        (pick (eqb byteDue 0) endCommand
+        (goesOn (at + 1 + sizeDue) byteDue operandDue (command (s .held) byteDue operandDue))))))
+
+  -- the first play tests the length and the tag, and then plays the first command
+  unfoldable pub step : List ℕ → Step
+  step file =
+      pick (s .started) (commandStep file (s .place))
+      (pick (ltb 65536 (length file)) (endsBefore 1)
+      (pick (not (isTagged file)) (endsBefore 15)
+      (commandStep file 4)))
+
+-- what a play answers: a row was written, with this number; the row buffer is at fault; the session has ended
+pub data Answer : Type 0 where
+  row : ℕ → Answer
+  fault : Answer
+  over : Answer
+
+pub record Outcome : Type 0 where
+  pub session : Session
+  pub answer : Answer
+  pub buffer : List ℕ
+
+abbrev pub rowOf : Step → List ℕ
+rowOf t = rowText (t .ordinal) (t .byte) (t .number) (t .payload)
+
+-- one play, lent the file and a row buffer. A buffer not of 16,384 bytes is at fault ahead of all else, and leaves the session;
+-- after the end nothing is written
+unfoldable pub play : Session → List ℕ → List ℕ → Outcome
+play s file buffer =
+    pick (not (eqb (length buffer) 16384)) (record { session = s; answer = fault; buffer = buffer })
+    (pick (s .ended) (record { session = s; answer = over; buffer = buffer })
+    (record { session = step s file .session; answer = row (step s file .number); buffer = atFront (rowOf (step s file)) buffer }))
