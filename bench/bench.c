@@ -1,12 +1,13 @@
 /* Measures the kit's functions beside plain C of the same method, on the same input, in one run. Each figure is the least of several rounds;
    the two sides take turns, so that both meet the same machine. A difference in what they compute ends the run. */
+#include "passign.h"
 #include "plain.h"
 #include <stdio.h>
 #include <stdlib.h>
 #include <string.h>
 #include <time.h>
 
-/* the kit's functions, from the crate bench_exports: each slice is a pointer and its length */
+/* functions of the inner crates, from the crate bench_exports: each slice is a pointer and its length */
 void bench_sha512(const uint8_t *message, size_t size, uint8_t *digest);
 void bench_sha512_of_two(const uint8_t *first, size_t first_size, const uint8_t *second, size_t second_size, uint8_t *digest);
 void bench_evaluate(uint8_t set, const int16_t *coefficients, size_t size, const uint16_t *points, size_t count, uint32_t *out, size_t room);
@@ -19,6 +20,8 @@ static uint16_t points[600];
 static uint32_t powers[1153], values[2][600];
 static int32_t z[2][1153];
 static uint8_t set;
+static uint8_t secret_key[1154], public_key[3001], signatures[2][2379];
+static uint32_t answers[2];
 
 static uint32_t next(void)
 {
@@ -74,6 +77,36 @@ static void ours_z(void)
     bench_point(key, n, challenge, n, mask, n, z[1], n);
 }
 
+static void plain_signs(void) { answers[0] = 256 * plain_sign(&plain_sets[set], powers, secret_key, points, mask, message, 64, signatures[0]); }
+
+static void ours_signs(void)
+{
+    const struct plain_set *s = &plain_sets[set];
+    answers[1] = passign_sign(secret_key, 1 + s->n, points, s->t, mask, s->n, message, 64, signatures[1], 1 + 2 * s->b + 2 * s->n);
+}
+
+static void plain_checks(void) { answers[0] = 256 * plain_check(&plain_sets[set], powers, public_key, message, 64, signatures[0]); }
+
+static void ours_checks(void)
+{
+    const struct plain_set *s = &plain_sets[set];
+    answers[1] = passign_check(public_key, 1 + 5 * s->t, message, 64, signatures[1], 1 + 2 * s->b + 2 * s->n);
+}
+
+/* a mask that passes, so that there is a signature to make and to check */
+static void settle(const struct plain_set *s)
+{
+    secret_key[0] = set;
+    for (size_t i = 0; i < s->n; i++)
+        secret_key[1 + i] = key[i];
+    passign_public_key(secret_key, 1 + s->n, points, s->t, public_key, 1 + 5 * s->t);
+    do {
+        for (size_t i = 0; i < s->n; i++)
+            mask[i] = (int16_t)(next() % (s->k + 1)) - (int16_t)(s->k / 2);
+        ours_signs();
+    } while (answers[1] != 256);
+}
+
 static void fill(const struct plain_set *s)
 {
     memset(challenge, 0, sizeof challenge);
@@ -102,6 +135,11 @@ int main(void)
         compare(name, plain_eval, ours_eval, values[0], values[1], plain_sets[set].t * sizeof values[0][0]);
         snprintf(name, sizeof name, "point, set %d", set);
         compare(name, plain_z, ours_z, z[0], z[1], plain_sets[set].n * sizeof z[0][0]);
+        settle(&plain_sets[set]);
+        snprintf(name, sizeof name, "sign with one mask, set %d", set);
+        compare(name, plain_signs, ours_signs, signatures[0], signatures[1], 1 + 2 * plain_sets[set].b + 2 * plain_sets[set].n);
+        snprintf(name, sizeof name, "check, set %d", set);
+        compare(name, plain_checks, ours_checks, &answers[0], &answers[1], sizeof answers[0]);
     }
     return 0;
 }

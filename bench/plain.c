@@ -127,3 +127,71 @@ int plain_challenge(const struct plain_set *s, const uint32_t *commitment, const
     }
     return kept == s->b;
 }
+
+static int in_range(const struct plain_set *s, const int32_t *z)
+{
+    int32_t bound = s->k - s->b;
+    int all = 1;
+    for (size_t i = 0; i < s->n; i++)
+        all &= -bound <= z[i] && z[i] <= bound;
+    return all;
+}
+
+int plain_sign(const struct plain_set *s, const uint32_t *powers, const uint8_t *secret_key, const uint16_t *points, const int16_t *mask,
+               const uint8_t *message, size_t size, uint8_t *signature)
+{
+    int16_t f[1153];
+    int8_t c[1153];
+    int32_t z[1153];
+    uint32_t commitment[600];
+    for (size_t i = 0; i < s->n; i++)
+        f[i] = (int8_t)secret_key[1 + i];
+    plain_evaluate(s, powers, mask, points, s->t, commitment);
+    if (!plain_challenge(s, commitment, message, size, c))
+        return 0;
+    plain_point(s, f, c, mask, z);
+    if (!in_range(s, z))
+        return 0;
+    *signature++ = secret_key[0];
+    for (size_t i = 0; i < s->n; i++)
+        if (c[i] != 0) {
+            *signature++ = i >> 8 | (c[i] < 0 ? 0x80 : 0);
+            *signature++ = i;
+        }
+    for (size_t i = 0; i < s->n; i++) {
+        *signature++ = z[i] >> 8;
+        *signature++ = z[i];
+    }
+    return 1;
+}
+
+int plain_check(const struct plain_set *s, const uint32_t *powers, const uint8_t *public_key, const uint8_t *message, size_t size,
+                const uint8_t *signature)
+{
+    uint16_t points[600];
+    uint32_t of_z[600], of_c[600];
+    int16_t z[1153], c[1153] = {0};
+    int32_t wide[1153];
+    int8_t drawn[1153];
+    const uint8_t *values = public_key + 1 + 2 * s->t, *point = signature + 1 + 2 * s->b;
+    for (size_t i = 0; i < s->t; i++)
+        points[i] = public_key[1 + 2 * i] << 8 | public_key[2 + 2 * i];
+    for (size_t i = 0; i < s->b; i++)
+        c[(signature[1 + 2 * i] & 0x7f) << 8 | signature[2 + 2 * i]] = signature[1 + 2 * i] & 0x80 ? -1 : 1;
+    for (size_t i = 0; i < s->n; i++)
+        wide[i] = z[i] = (int16_t)(point[2 * i] << 8 | point[2 * i + 1]);
+    if (!in_range(s, wide))
+        return 0;
+    plain_evaluate(s, powers, c, points, s->t, of_c);
+    plain_evaluate(s, powers, z, points, s->t, of_z);
+    for (size_t i = 0; i < s->t; i++) {
+        uint64_t v = values[3 * i] << 16 | values[3 * i + 1] << 8 | values[3 * i + 2];
+        of_z[i] = (of_z[i] + s->q - v * of_c[i] % s->q) % s->q;
+    }
+    if (!plain_challenge(s, of_z, message, size, drawn))
+        return 0;
+    for (size_t i = 0; i < s->n; i++)
+        if (drawn[i] != c[i])
+            return 0;
+    return 1;
+}

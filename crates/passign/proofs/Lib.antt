@@ -17,4 +17,3 @@ pub mod AcceptedSigning
 pub mod OtherMask
 pub mod OtherEntry
 pub mod Parts
-pub mod Reading

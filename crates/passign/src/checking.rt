@@ -1,49 +1,25 @@
 // Checking as an entry.
 ghost use mathlib.Core.Path.{_≡_};
-ghost use Prim.Native.Nat.{_+_, _*_, _<_, _≤_};
-ghost use lib.ListN.{length, take, drop};
+ghost use Prim.Native.Nat.{_<_};
+ghost use lib.ListN.{length, take};
 ghost use Rattle.parameters.specs.Sets.{setOf};
 ghost use Rattle.parameters.specs.Sound.{Fitting};
 ghost use Rattle.challenge.specs.Draw.{drawChallenge};
-ghost use Rattle.encoding.specs.Bytes.{numbers};
 ghost use Rattle.encoding.specs.Challenge.{challengeOf};
-ghost use Rattle.encoding.specs.Encoding.{publicKeySize, signatureSize, evaluationsOf, entriesRead, pointRead};
+ghost use Rattle.encoding.specs.Encoding.{signatureSize, entriesRead, pointRead};
 ghost use Rattle.passign.specs.Check.{checkRefusalIn, checkVerdict, checkAnswerIn, checkAnswer};
 use crate::Verdict;
-use encoding::challenge_entries::are_entries_of;
+use crate::layout::evaluations_of;
+use crate::layout::has_entries;
+use crate::layout::has_evaluations;
+use crate::layout::has_points;
+use crate::layout::words_of;
 use encoding::challenge_entries::read_challenge;
-use encoding::numbers::read_triples;
-use encoding::numbers::read_words;
-use encoding::public_key::are_below;
-use encoding::public_key::are_points;
 use encoding::signed_numbers::read_signed_words;
 use parameters::Params;
 use parameters::params_of;
 use parameters::powers_of;
 use verifier::verdict_of;
-
-// The numbers of two bytes after a set byte, in front: exponents of a public key, challenge entries of a signature.
-fn words_of(bytes: &[u8], count: usize) -> [u16; 1152]
-    requires { ⌜ (1 + 2 * count ≤ length (now bytes)) × (count ≤ 1152) ⌝ }
-    ensures { λ r. ⌜ take count r ≡ numbers 2 count (drop 1 (now (bytes .entry))) ⌝ }
-{
-    let end = 1 + 2 * count;
-    let mut out = [0u16; 1152];
-    read_words(&bytes[1..end], &mut out[..count]);
-    out
-}
-
-// The evaluations of a public key, in front.
-fn evaluations_of(p: Params, key: &[u8]) -> [u32; 1152]
-    requires { ⌜ Fitting p × (length (now key) ≡ publicKeySize p) ⌝ }
-    ensures { λ r. ⌜ take (p .t) r ≡ evaluationsOf p (now (key .entry)) ⌝ }
-{
-    let t = p.t;
-    let start = 1 + 2 * t;
-    let mut out = [0u32; 1152];
-    read_triples(&key[start..], &mut out[..t]);
-    out
-}
 
 // The challenge of a signature, in front.
 fn challenge_of(p: Params, signature: &[u8]) -> [i8; 1153]
@@ -84,16 +60,13 @@ fn refusal_in(p: Params, key: &[u8], signature: &[u8]) -> u32
     if signature.len() != 1 + 2 * b + 2 * n {
         return 1;
     }
-    let points = words_of(key, t);
-    if !are_points(&points[..t], n) {
+    if !has_points(p, key) {
         return 4;
     }
-    let evaluations = evaluations_of(p, key);
-    if !are_below(&evaluations[..t], p.q) {
+    if !has_evaluations(p, key) {
         return 7;
     }
-    let entries = words_of(signature, b);
-    if are_entries_of(&entries[..b], n) {
+    if has_entries(p, signature) {
         return 0;
     }
     12

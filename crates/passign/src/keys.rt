@@ -45,7 +45,7 @@ fn refusal_in(p: Params, key: &[u8], points: &[u16], room: usize) -> u32
 }
 
 // The coefficients of an encoded secret key, in front.
-fn coefficients_of(key: &[u8], n: usize) -> [i16; 1153]
+pub(crate) fn coefficients_of(key: &[u8], n: usize) -> [i16; 1153]
     requires { ⌜ (length (now key) ≡ 1 + n) × (n ≤ 1153) ⌝ }
     ensures { λ r. ⌜ take n r ≡ keyOf (now (key .entry)) ⌝ }
 {

@@ -100,8 +100,8 @@ pub fn is_ternary(f: &[i8]) -> bool
     ok
 }
 
-// The numbers of two bytes after the set byte, in front.
-fn words_of(bytes: &[u8], count: usize) -> [u16; 1152]
+// The numbers of two bytes after the set byte, in front: exponents of a public key, challenge entries of a signature.
+pub fn words_of(bytes: &[u8], count: usize) -> [u16; 1152]
     requires { ⌜ (1 + 2 * count ≤ length (now bytes)) × (count ≤ 1152) ⌝ }
     ensures { λ r. ⌜ take count r ≡ numbers 2 count (drop 1 (now (bytes .entry))) ⌝ }
 {
@@ -109,6 +109,19 @@ fn words_of(bytes: &[u8], count: usize) -> [u16; 1152]
     let at = 1 + 2 * count;
     read_words(&bytes[1..at], &mut words[..count]);
     words
+}
+
+// The evaluations of a public key, in front.
+pub fn evaluations_of(p: Params, bytes: &[u8]) -> [u32; 1152]
+    requires { ⌜ Fitting p ⌝ }
+    requires { ⌜ length (now bytes) ≡ publicKeySize p ⌝ }
+    ensures { λ r. ⌜ take (p .t) r ≡ evaluationsOf p (now (bytes .entry)) ⌝ }
+{
+    let t = p.t;
+    let at = 1 + 2 * t;
+    let mut values = [0u32; 1152];
+    read_triples(&bytes[at..], &mut values[..t]);
+    values
 }
 
 // Whether the exponents of a public key are allowed.
@@ -131,9 +144,7 @@ pub fn has_evaluations(p: Params, bytes: &[u8]) -> bool
 {
     let q = p.q;
     let t = p.t;
-    let at = 1 + 2 * t;
-    let mut values = [0u32; 1152];
-    read_triples(&bytes[at..], &mut values[..t]);
+    let values = evaluations_of(p, bytes);
     are_below(&values[..t], q)
 }
 

@@ -11,9 +11,9 @@ ghost use Rattle.polynomial.specs.Polynomial.{within};
 ghost use Rattle.passign.specs.Answer.{setByte};
 ghost use Rattle.passign.specs.Sign.{signRefusalIn, signAnswerIn, signWrittenIn, signAnswer, signWritten};
 use crate::Signing;
+use crate::keys::coefficients_of;
 use encoding::public_key::are_points;
 use encoding::secret_key::are_key_bytes;
-use encoding::secret_key::read_key;
 use parameters::Params;
 use parameters::params_of;
 use parameters::powers_of;
@@ -91,12 +91,12 @@ fn sign_in(
         return Signing::Refused(refusal);
     }
     let n = p.n;
-    let mut f = [0i16; 1153];
-    read_key(&key[1..], &mut f[..n]);
+    let f = coefficients_of(key, n);
     let table = powers_of(set);
     let passed = sign_first(p, &table[..n], set, &f[..n], points, masks, message, out);
     if passed < masks.len() / n {
-        Signing::Signed(passed as u8)
+        let number = passed as u8;
+        Signing::Signed(number)
     } else {
         Signing::Refused(9)
     }

@@ -3,11 +3,10 @@
 use mathlib.Core.Path.{sym, ap₂, _∙_}
 use lib.IntN.{pos}
 use lib.ListN.{drop, replicate}
-use lib.Seq.{length-take-le}
+use lib.Seq.{length-take-le, take-at}
 use borrow.Author.Needs.{needs}
 use Rattle.encoding.specs.Challenge.{challengeOf}
 use Rattle.encoding.specs.Encoding.{entriesRead}
-use Rattle.passign.proofs.Reading.{front-is}
 use Rattle.passign.proofs.checking.challenge_of.Statement.{statement}
 use Rattle.passign.proofs.checking.challenge_of.Tie as tie
 
@@ -36,9 +35,9 @@ unfolding entriesRead
 returns c =
     let n = c .before .before .before .before .before .before .args .p .n in
     let w = c .before .read-challenge in
-    let size = slice-aggregate-read-challenge-2 (c .before .before) in
-    front-is (w .last .1 .0) (drop n (replicate 1153 (pos 0))) n (w .kept .1 .0 ∙ sym size)
-    (w .ensures ∙ ap₂ challengeOf (sym size) (c .before .before .before .before .words-of .ensures))
+    let size = sym (slice-aggregate-read-challenge-2 (c .before .before)) in
+    take-at (w .last .1 .0) (drop n (replicate 1153 (pos 0))) n (w .kept .1 .0 ∙ size)
+    ∙ w .ensures ∙ ap₂ challengeOf size (c .before .before .before .before .words-of .ensures)
 
 pub challenge-of-spec : {M : Type 1} → statement M
 challenge-of-spec =

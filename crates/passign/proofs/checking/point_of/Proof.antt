@@ -1,16 +1,16 @@
 -- `checking::point_of` meets its contract: the coefficients are read into the front of the array.
 -- Assumes nothing.
-use mathlib.Core.Path.{sym, ap, _∙_}
-use mathlib.Core.List.{map}
-use Prim.Native.Nat.{_+_, _-_, _*_}
+use mathlib.Core.Path.{_≡_, sym, ap, ap₂, _∙_}
+use mathlib.Core.List.{List, map}
+use Prim.Native.Nat.{ℕ, _+_, _*_}
 use native.Mathlib.Omega.{arith}
 use lib.IntN.{pos}
-use lib.ListN.{length, drop, replicate}
-use lib.Seq.{length-take-le}
+use lib.ListN.{length, drop, replicate, length-drop}
+use lib.Seq.{length-take-le, take-at}
 use borrow.Author.Needs.{needs}
-use Rattle.encoding.specs.Bytes.{signed16}
+use Rattle.encoding.specs.Bytes.{numbers, signed16}
 use Rattle.encoding.specs.Encoding.{pointRead}
-use Rattle.passign.proofs.Reading.{front-is, part-length, numbers-front}
+use Rattle.passign.proofs.Parts.{rest}
 use Rattle.passign.proofs.checking.point_of.Statement.{statement}
 use Rattle.passign.proofs.checking.point_of.Tie as tie
 
@@ -41,21 +41,18 @@ read-signed-words-requires : tie.Need-read-signed-words-requires
 read-signed-words-requires c κs =
     let s = c .before .before .before .before in
     let start = 1 + 2 * s .args .p .b in
-    part-length start (length (s .args .signature .now) - start) (s .args .signature .now) (omega (arith, s .pre .1))
-    ∙ omega (arith, s .pre .1, slice-aggregate-read-signed-words c)
+    let e : length (drop start (s .args .signature .now)) ≡ 2 * s .args .p .n = omega (arith, length-drop start (s .args .signature .now), s .pre .1) in
+    ap length (rest (s .args .signature .now) start) ∙ e ∙ ap (λ (n : ℕ). 2 * n) (slice-aggregate-read-signed-words c)
 
 returns : tie.Need-returns
 unfolding pointRead
 returns c =
-    let s = c .before .before .before .before .before .before in
-    let n = s .args .p .n in
-    let start = 1 + 2 * s .args .p .b in
+    let s = c .before .before .before .before .before .before .args in
+    let n = s .p .n in
     let w = c .before .read-signed-words in
-    let size = slice-aggregate-read-signed-words (c .before .before) in
-    front-is (w .last .1 .0) (drop n (replicate 1153 (pos 0))) n (w .kept .1 .0 ∙ sym size)
-    (w .ensures
-    ∙ ap (map signed16)
-    (numbers-front start (length (s .args .signature .now) - start) (s .args .signature .now) (omega (arith, s .pre .1)) 2 n (sym size) (omega (arith, s .pre .1))))
+    let size = sym (slice-aggregate-read-signed-words (c .before .before)) in
+    take-at (w .last .1 .0) (drop n (replicate 1153 (pos 0))) n (w .kept .1 .0 ∙ size)
+    ∙ w .ensures ∙ ap₂ (λ (m : ℕ) (l : List ℕ). map signed16 (numbers 2 m l)) size (rest (s .signature .now) (1 + 2 * s .p .b))
 
 pub point-of-spec : {M : Type 1} → statement M
 point-of-spec =

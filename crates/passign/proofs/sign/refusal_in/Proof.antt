@@ -2,10 +2,7 @@
 -- Assumes nothing.
 use mathlib.Core.Path.{_≡_, sym, ap, _∙_}
 use mathlib.Core.Bool.{not}
-use native.Mathlib.Omega.{arith}
-use Prim.Native.Nat.{ℕ, _-_}
-use lib.ListN.{length, drop, length-drop}
-use lib.Seq.{take-all}
+use Prim.Native.Nat.{ℕ}
 use borrow.Author.Needs.{needs}
 use borrow.Author.Tests.{eq-eqb, ne-eqb, not-true, not-false}
 use Rattle.algebra.specs.All.{all}
@@ -13,6 +10,7 @@ use Rattle.algebra.specs.Choice.{pick}
 use Rattle.polynomial.specs.Polynomial.{within}
 use Rattle.encoding.specs.Encoding.{arePoints, isKeyByte, isKey}
 use Rattle.passign.specs.Sign.{areMasks, signRefusalIn}
+use Rattle.passign.proofs.Parts.{rest}
 use Rattle.passign.proofs.sign.refusal_in.Statement.{statement}
 use Rattle.passign.proofs.sign.refusal_in.Tie as tie
 
@@ -29,7 +27,7 @@ key-test : (c : tie.After-are-key-bytes) →
 unfolding isKey
 key-test c =
     let key = c .before .before .before .before .before .before .before .before .before .before .before .before .args .key .now in
-    sym (c .are-key-bytes .ensures ∙ ap (all isKeyByte) (take-all (length key - 1) (drop 1 key) (omega (arith, length-drop 1 key))))
+    sym (c .are-key-bytes .ensures ∙ ap (all isKeyByte) (rest key 1))
 
 add-if1 : tie.Need-add-if1
 add-if1 c = search needs

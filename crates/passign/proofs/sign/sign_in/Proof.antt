@@ -1,31 +1,29 @@
 -- `sign::sign_in` meets its contract: a refusal is answered and leaves the buffer; else the signer's number says which mask signed, if any.
 -- Assumes nothing.
 use mathlib.Core.Path.{_≡_, refl, sym, subst, ap, ap₂, _∙_}
-use mathlib.Core.List.{List, _++_, map}
+use mathlib.Core.List.{List}
 use mathlib.Core.Option.{Option, none, some}
-use Prim.Native.Nat.{ℕ, _-_, _*_, _/_, _%_, _<_, _≤_}
+use Prim.Native.Nat.{ℕ, _*_, _/_, _%_, _<_, _≤_}
 use native.Mathlib.Nat.{div-le-of-le-mul}
 use native.Mathlib.Omega.{arith}
 use lib.Dec.{T, eqb, leb, eqb→eq, leb→le}
-use lib.IntN.{ℤ, pos}
-use lib.ListN.{length, take, drop, replicate, length-drop}
-use lib.Seq.{length-take-le, take-all}
+use lib.IntN.{ℤ}
+use lib.ListN.{length}
+use lib.Seq.{length-take-le}
 use borrow.Author.Needs.{needs}
 use borrow.Author.Tests.{eq-eqb, ne-eqb}
 use Rattle.algebra.proofs.Test.{and-left, and-right, true-holds}
 use Rattle.parameters.specs.Sound.{Fitting}
 use Rattle.polynomial.specs.Polynomial.{ternary}
 use Rattle.challenge.specs.Draw.{drawChallenge}
-use Rattle.encoding.specs.Encoding.{keyCoefficient, keyOf}
+use Rattle.encoding.specs.Encoding.{keyOf}
 use Rattle.scheme.specs.Scheme.{Signed}
 use Rattle.signer.specs.Signer.{passedOverIn, signedBytes, signedBy}
-use Rattle.signer.proofs.Buffer.{front-room, front-length}
 use Rattle.passign.specs.declared.Signing.the-variants as answer
 use Rattle.passign.specs.Answer.{setByte}
 use Rattle.passign.specs.Sign.{signRefusalIn, signedAnswer, signAnswerIn, signWrittenIn}
 use Rattle.parameters.proofs.Lookup.{lookup-sound, lookup-fitting, lookup-powers}
 use Rattle.passign.proofs.Evaluating.{points-below}
-use Rattle.passign.proofs.Reading.{front-is, part-length}
 use Rattle.passign.proofs.Refusal.{SignAllowed, sign-allowed}
 use Rattle.passign.proofs.Encoded.{key-ternary}
 use Rattle.passign.proofs.AcceptedSigning.{offered}
@@ -74,67 +72,28 @@ returns : tie.Need-returns
 unfolding signAnswerIn signWrittenIn
 returns c = rw (← c .before .refusal-in .ensures, ne-eqb _ 0 (c .if1 .taken)) (refl, refl)
 
-sub-read-key : tie.Need-sub-read-key
-sub-read-key c = omega (arith, allowed c .key-size)
-
-part-read-key-start : tie.Need-part-read-key-start
-part-read-key-start c = omega (arith, allowed c .key-size)
-
-part-read-key-end : tie.Need-part-read-key-end
-part-read-key-end c = search needs
-
-array-borrow-prefix-f : tie.Need-array-borrow-prefix-f
-array-borrow-prefix-f c = let f = fitting (c .before .before .before .before .before .before .before) .size in search needs
-
-slice-aggregate-read-key : tie.Need-slice-aggregate-read-key
-slice-aggregate-read-key c =
-    let s = c .before .before .before .before .before .before .before .before in
-    sym (length-take-le (s .args .p .n) (replicate 1153 (pos 0)) (fitting s .size))
-
-read-key-requires : tie.Need-read-key-requires
-read-key-requires c κs =
-    let e = c .before .before in
-    let key = start e .args .key .now in
-    sym (part-length 1 (length key - 1) key (omega (arith, allowed e .key-size)) ∙ omega (arith, allowed e .key-size, slice-aggregate-read-key c))
-
--- the key is read into the front of the array
-key-size : (c : tie.After-f2) → length (c .before .read-key .last .1 .0) ≡ start (c .before .before .before .before) .args .p .n
-key-size c = c .before .read-key .kept .1 .0 ∙ sym (slice-aggregate-read-key (c .before .before))
-
-key-front : (c : tie.After-f2) → let s = start (c .before .before .before .before) .args in
-    take (s .p .n) (c .before .read-key .last .1 .0 ++ drop (s .p .n) (replicate 1153 (pos 0))) ≡ keyOf (s .key .now)
-unfolding keyOf
-key-front c =
-    let s = start (c .before .before .before .before) .args in
-    let w = c .before .read-key in
-    front-is (w .last .1 .0) (drop (s .p .n) (replicate 1153 (pos 0))) (s .p .n) (key-size c)
-    (w .ensures ∙ ap (map keyCoefficient) (take-all (length (s .key .now) - 1) (drop 1 (s .key .now)) (omega (arith, length-drop 1 (s .key .now)))))
+coefficients-of-requires : tie.Need-coefficients-of-requires
+coefficients-of-requires c κs = (allowed c .key-size, fitting (start c) .size)
 
 powers-of-requires : tie.Need-powers-of-requires
 powers-of-requires c κs = search needs
 
 array-share-prefix-table : tie.Need-array-share-prefix-table
-array-share-prefix-table c = let f = fitting (start (c .before .before .before .before .before)) .size in search needs
+array-share-prefix-table c = let f = fitting (start (c .before .before)) .size in search needs
 
 slice-aggregate-sign-first : tie.Need-slice-aggregate-sign-first
 slice-aggregate-sign-first c = sym (length-take-le _ (c .before .powers-of .result) (array-share-prefix-table (c .before)))
 
 array-share-prefix-f : tie.Need-array-share-prefix-f
-array-share-prefix-f c =
-    let f = c .before .before in
-    let n = start (f .before .before .before .before) .args .p .n in
-    front-room (f .before .read-key .last .1 .0) (drop n (replicate 1153 (pos 0))) n (key-size f)
+array-share-prefix-f c = let f = fitting (start (c .before .before .before)) .size in search needs
 
 slice-aggregate-sign-first-2 : tie.Need-slice-aggregate-sign-first-2
-slice-aggregate-sign-first-2 c =
-    let f = c .before .before .before in
-    let n = start (f .before .before .before .before) .args .p .n in
-    front-length (f .before .read-key .last .1 .0) (drop n (replicate 1153 (pos 0))) n (key-size f)
+slice-aggregate-sign-first-2 c = sym (length-take-le _ (c .before .before .before .coefficients-of .result) (array-share-prefix-f (c .before)))
 
 sign-first-requires : tie.Need-sign-first-requires
 sign-first-requires c κs =
-    let f = c .before .before .before .before in
-    let e = f .before .before .before .before in
+    let k = c .before .before .before .before in
+    let e = k .before in
     let s = start e in
     let a = s .args in
     let table = c .before .before .before .powers-of in
@@ -143,7 +102,7 @@ sign-first-requires c κs =
       fitting = fitting s;
       table = lookup-powers (a .set) (s .pre .0) (s .pre .1) (table .result) (table .ensures);
       key-size = sym (slice-aggregate-sign-first-2 (c .before));
-      key = subst (λ (l : List ℤ). T (ternary l)) (sym (key-front f)) (key-ternary (a .key .now) (allowed e .ternary));
+      key = subst (λ (l : List ℤ). T (ternary l)) (sym (k .coefficients-of .ensures)) (key-ternary (a .key .now) (allowed e .ternary));
       points-size = allowed e .points-size;
       points-below = points-below (a .p) (a .points .now) (allowed e .points-rise);
       masks-whole =
@@ -153,12 +112,12 @@ sign-first-requires c κs =
     }
 
 div-if2 : tie.Need-div-if2
-div-if2 c = let s = start (c .before .before .before .before .before .before .before .before .before .before .before) in omega (arith, fitting s .points)
+div-if2 c = let s = start (c .before .before .before .before .before .before .before .before) in omega (arith, fitting s .points)
 
 -- what the signer says, of the key as its bytes mean it
 module _ (c : tie.After-slice-known2) where
   abbrev entry : tie.Else1
-  entry = c .before .before .before .before .before .before .before .before .before .before .before
+  entry = c .before .before .before .before .before .before .before .before
 
   says : let s = start entry .args in
       c .before .before .sign-first .result
@@ -167,7 +126,7 @@ module _ (c : tie.After-slice-known2) where
       let s = start entry .args in
       c .before .before .sign-first .ensures .0
       ∙ ap (λ (f : List ℤ). passedOverIn (length (s .masks .now) / s .p .n) (signedBy drawChallenge (s .p) f (s .points .now) (s .masks .now) (s .message .now)))
-      (key-front (c .before .before .before .before .before .before .before))
+      (c .before .before .before .before .before .before .before .coefficients-of .ensures)
 
   writes : let s = start entry .args in
       c .before .before .sign-first .last .1 .1 .1 .1 .1 .1 .1 .0
@@ -176,10 +135,10 @@ module _ (c : tie.After-slice-known2) where
       let s = start entry .args in
       c .before .before .sign-first .ensures .1
       ∙ ap₂ (λ (f : List ℤ) (set : ℕ). signedBytes set (signedBy drawChallenge (s .p) f (s .points .now) (s .masks .now) (s .message .now)) (s .out .now))
-      (key-front (c .before .before .before .before .before .before .before)) (sym (start entry .pre .2))
+      (c .before .before .before .before .before .before .before .coefficients-of .ensures) (sym (start entry .pre .2))
 
-cast-t30 : tie.Need-cast-t30
-cast-t30 c =
+cast-number : tie.Need-cast-number
+cast-number c =
     let e = entry (c .before) in
     let s = start e .args in
     let few : length (s .masks .now) / s .p .n ≤ 8 = div-le-of-le-mul (s .p .n) (omega (arith, few-masks e)) in
@@ -216,12 +175,7 @@ sign-in-spec =
     (tie.spec
     refusal-in-requires
     returns
-    sub-read-key
-    part-read-key-start
-    part-read-key-end
-    array-borrow-prefix-f
-    slice-aggregate-read-key
-    read-key-requires
+    coefficients-of-requires
     powers-of-requires
     array-share-prefix-table
     slice-aggregate-sign-first
@@ -229,7 +183,7 @@ sign-in-spec =
     slice-aggregate-sign-first-2
     sign-first-requires
     div-if2
-    cast-t30
+    cast-number
     same-length
     returns-2
     same-length-2

@@ -1,0 +1,53 @@
+/* PASSign for C: link target/staticlib/libpassign_c.a, which `rt staticlib passign_c` builds.
+
+   Every function takes any input. What is not allowed is refused with a number below 256, and a refused call writes nothing:
+     1 a wrong length, or a message above 65,535 bytes     2 set not 0..4, or sets that differ
+     4 exponents out of 1..N-1 or not increasing           5 key value not allowed
+     6 mask coefficient outside -k..k                      7 evaluation not below q
+     9 no mask, or none passes                            11 pool spent
+    12 challenge index not below N, or not increasing
+
+   A slice is a pointer and its length in elements; the pointer is not null, also where the length is 0.
+
+     set   N     q        k      b   t    secret key  public key  signature (bytes)
+     0     5     31       6      2   2    6           11          15
+     1     433   775937   4095   19  200  434         1001        905
+     2     577   743177   16383  24  280  578         1401        1203
+     3     769   1047379  32767  29  386  770         1931        1597
+     4     1153  968521   32767  36  600  1154        3001        2379                */
+#ifndef PASSIGN_H
+#define PASSIGN_H
+
+#include <stddef.h>
+#include <stdint.h>
+
+#ifdef __cplusplus
+extern "C" {
+#endif
+
+/* Checks a signature: 256 for yes, 0 for no, else the refusal number (1, 2, 4, 7, 12). Only 256 is a yes. */
+uint32_t passign_check(const uint8_t *public_key, size_t public_key_length, const uint8_t *message, size_t message_length,
+                       const uint8_t *signature, size_t signature_length);
+
+/* Signs with the first of up to eight masks that passes, N numbers each, one after the other: 256 plus the number of masks passed over,
+   else the refusal number (1, 2, 4, 5, 6, 9). */
+uint32_t passign_sign(const uint8_t *secret_key, size_t secret_key_length, const uint16_t *points, size_t points_length,
+                      const int16_t *masks, size_t masks_length, const uint8_t *message, size_t message_length,
+                      uint8_t *signature, size_t signature_length);
+
+/* Writes the public key of a secret key at t points: 0, else the refusal number (1, 2, 4, 5). */
+uint32_t passign_public_key(const uint8_t *secret_key, size_t secret_key_length, const uint16_t *points, size_t points_length,
+                            uint8_t *public_key, size_t public_key_length);
+
+/* Evaluates N coefficients at t points, each result in 0..q-1: 0, else the refusal number (1, 2, 4). */
+uint32_t passign_evaluate(uint8_t set, const int16_t *coefficients, size_t coefficients_length, const uint16_t *points, size_t points_length,
+                          uint32_t *evaluations, size_t evaluations_length);
+
+/* Draws the challenge of a pool of 64 to 512 bytes, a multiple of 64, as N coefficients: 0, else the refusal number (1, 2, 11). */
+uint32_t passign_draw(uint8_t set, const uint8_t *pool, size_t pool_length, int8_t *challenge, size_t challenge_length);
+
+#ifdef __cplusplus
+}
+#endif
+
+#endif

@@ -1,0 +1,68 @@
+"""The kit's static library: built, linked into a shared object, and called with guarded buffers."""
+
+import ctypes
+import subprocess
+import sys
+from array import array
+
+GUARD = bytes(range(0xA0, 0xE0))  # 64 bytes: keeps what follows aligned for every element
+
+# The element type (of module array) of each lent slice, in each entry's order; "set" is a number.
+ELEMENTS = {"coefficients": "h", "points": "H", "pool": "B", "secret_key": "B", "masks": "h",
+            "message": "B", "public_key": "B", "signature": "B"}
+OUT_ELEMENTS = {"evaluate": "I", "draw": "b", "public_key": "B", "sign": "B"}
+
+
+def element(entry, argument):
+    return OUT_ELEMENTS[entry] if argument == "out" else ELEMENTS[argument]
+
+
+def as_bytes(entry, argument, values):
+    return array(element(entry, argument), values).tobytes()
+
+
+class Guarded:
+    """A slice to lend, with guard bytes on both sides."""
+
+    def __init__(self, content):
+        whole = GUARD + content + GUARD
+        self.memory = (ctypes.c_uint64 * (len(whole) // 8 + 1))()
+        self.size = len(whole)
+        ctypes.memmove(self.memory, whole, self.size)
+        self.address = ctypes.addressof(self.memory) + len(GUARD)
+
+    def now(self):
+        return ctypes.string_at(self.memory, self.size)
+
+
+def build(repository):
+    """Path of the shared object. rt proves the crate first, unless that is done already."""
+    built = subprocess.run(["rt", "staticlib", "passign_c"], cwd=repository, text=True,
+                           stdout=subprocess.PIPE, stderr=subprocess.STDOUT)
+    if built.returncode != 0:
+        sys.exit(f"{built.stdout}\nlibrary: rt staticlib passign_c failed")
+    archive = repository / "target/staticlib/libpassign_c.a"
+    shared = repository / "target/libpassign_c.so"
+    subprocess.run(["cc", "-shared", "-o", shared, "-Wl,--whole-archive", archive,
+                    "-Wl,--no-whole-archive", "-Wl,-z,defs"], check=True)  # defs: nothing left unlinked
+    return shared
+
+
+def load(path):
+    """A function (entry, arguments) -> (answer, the guarded bytes of each lent slice after it)."""
+    library = ctypes.CDLL(str(path))
+
+    def call(entry, arguments):
+        function = getattr(library, f"passign_{entry}")
+        function.restype = ctypes.c_uint32
+        passed, lent = [], {}
+        for argument, values in arguments.items():
+            if argument == "set":
+                passed.append(ctypes.c_uint8(values))
+                continue
+            lent[argument] = Guarded(as_bytes(entry, argument, values))
+            passed += [ctypes.c_void_p(lent[argument].address), ctypes.c_size_t(len(values))]
+        answer = function(*passed)
+        return answer, {argument: memory.now() for argument, memory in lent.items()}
+
+    return call

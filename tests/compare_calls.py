@@ -1,0 +1,91 @@
+"""Each call in the kit and in the reference: the answer and every lent byte must agree."""
+
+from collections import Counter, defaultdict
+
+import library_calls
+from c_library import GUARD, as_bytes
+from reference import library
+from reference.parameters import SETS
+
+REFUSALS = {"evaluate": {2, 1, 4}, "draw": {2, 1, 11}, "public_key": {1, 2, 4, 5},
+            "sign": {1, 2, 4, 5, 6, 9}, "check": {1, 2, 4, 7, 12}}
+ACCEPTED = {"evaluate": {0}, "draw": {0}, "public_key": {0}, "sign": {256}, "check": {0, 256}}
+ALL_PASSED_OVER = set(range(256, 264))
+
+
+def expected(call):
+    """The reference's answer, and the guarded bytes of each lent slice after the call."""
+    lent = {name: list(values) if name == "out" else values for name, values in call.arguments.items()}
+    answer = getattr(library, call.entry)(*lent.values())
+    after = {name: GUARD + as_bytes(call.entry, name, values) + GUARD
+             for name, values in lent.items() if name != "set"}
+    return answer, after
+
+
+def difference(call, kit_call, answer, after):
+    """What the kit does otherwise than the reference, as a line of text; None where it agrees."""
+    kit_answer, kit_after = kit_call(call.entry, call.arguments)
+    if kit_answer != answer:
+        return f"answer {kit_answer}, reference {answer}"
+    for name, content in after.items():
+        if kit_after[name] != content:
+            at = next(i for i, (a, b) in enumerate(zip(kit_after[name], content)) if a != b)
+            return (f"answer {answer}, but byte {at - len(GUARD)} of {name} is "
+                    f"{kit_after[name][at]:02X}, reference {content[at]:02X}")
+    return None
+
+
+def short(values):
+    if isinstance(values, int):
+        return str(values)
+    text = values.hex() if isinstance(values, bytes) else str(values)
+    return f"{len(values)} of {text[:60]}{'…' if len(text) > 60 else ''}"
+
+
+def report(call, seed, text):
+    print(f"library: DIFFERENCE in passign_{call.entry}: {text}")
+    for name, values in call.arguments.items():
+        print(f"  {name}: {short(values)}")
+    print(f"  seed {seed}; replay: tests/run --seed {seed} --call '{call.name}'")
+
+
+def missing(counts):
+    """What no call gave: each answer of each entry in each set, and each passed-over number in all."""
+    gaps = []
+    for entry in REFUSALS:
+        for s in SETS:
+            for answer in sorted((REFUSALS[entry] | ACCEPTED[entry]) - set(counts[entry, s.number])):
+                gaps.append(f"{entry} in set {s.number} never answers {answer}")
+    gaps += [f"sign in set {s.number} passes no mask over" for s in SETS
+             if max(counts["sign", s.number], default=0) <= 256]
+    signed = set().union(*(counts["sign", s.number] for s in SETS))
+    return gaps + [f"sign never answers {answer}" for answer in sorted(ALL_PASSED_OVER - signed)]
+
+
+def print_counts(counts):
+    for entry in REFUSALS:
+        total = sum((counts[entry, s.number] for s in SETS), Counter())
+        answers = ", ".join(f"{answer}: {count}" for answer, count in sorted(total.items()))
+        if answers:
+            print(f"  {entry} answers {answers}")
+
+
+def run(seed, kit_call, only=None):
+    """True when all agree. Without kit_call the reference runs alone, for the coverage."""
+    counts = defaultdict(Counter)
+    for name in [only] if only else library_calls.names():
+        call = library_calls.make(seed, name)
+        answer, after = expected(call)
+        counts[call.entry, int(name.split("/")[1])][answer] += 1
+        text = difference(call, kit_call, answer, after) if kit_call else None
+        if text:
+            report(call, seed, text)
+            return False
+    gaps = [] if only else missing(counts)
+    for gap in gaps:
+        print(f"library: NOT COVERED: {gap}")
+    print_counts(counts)
+    called = sum(sum(count.values()) for count in counts.values())
+    against = "agree with the reference" if kit_call else "of the reference alone"
+    print(f"library: {called} calls {against}, seed {seed}")
+    return not gaps

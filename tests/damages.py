@@ -1,0 +1,248 @@
+"""Ways to damage a good library call, by the argument that they change.
+
+Each takes (rng, s, arguments) and changes the arguments in place. Whether the call is then refused,
+and with which number, is for the reference to say: some leave a call good, at the edge of a rule.
+"""
+
+from reference import encodings
+
+
+def put(values, at, value):
+    """values with one entry replaced, of the same type."""
+    changed = list(values)
+    changed[at] = value
+    return bytes(changed) if isinstance(values, (bytes, bytearray)) else changed
+
+
+def longer_or_shorter(name):
+    def shorten(rng, s, arguments):
+        arguments[name] = arguments[name][:-1]
+
+    def lengthen(rng, s, arguments):
+        values = arguments[name]
+        arguments[name] = values + (values[-1:] or type(values)([0]))
+
+    def empty(rng, s, arguments):
+        arguments[name] = arguments[name][:0]
+
+    return {f"{name} short": shorten, f"{name} long": lengthen, f"{name} empty": empty}
+
+
+def set_numbers():
+    def change(choose):
+        def to_number(rng, s, arguments):
+            arguments["set"] = choose(rng)
+        return to_number
+    return {"set 5": change(lambda rng: 5), "set 255": change(lambda rng: 255),
+            "set any": change(lambda rng: rng.randrange(256)),
+            "set of another": change(lambda rng: rng.randrange(5))}
+
+
+def set_bytes(name):
+    def change(number):
+        def to_number(rng, s, arguments):
+            if arguments[name]:
+                byte = number if number is not None else rng.choice([n for n in range(5) if n != s.number])
+                arguments[name] = put(arguments[name], 0, byte)
+        return to_number
+    return {f"{name} of set 5": change(5), f"{name} of set 255": change(255),
+            f"{name} of another set": change(None)}
+
+
+def damaged_points(rng, s, at, kind):
+    """The exponents with one of the mistakes of refusal 4."""
+    at = list(at)
+    i = rng.randrange(len(at)) if at else 0
+    if len(at) < 2:
+        return at
+    if kind == "equal":
+        at[max(i, 1)] = at[max(i, 1) - 1]
+    elif kind == "decreasing":
+        at[max(i, 1)], at[max(i, 1) - 1] = at[max(i, 1) - 1], at[max(i, 1)]
+    elif kind == "0":
+        at[0] = 0
+    elif kind == "N":
+        at[-1] = s.N
+    else:
+        at[i] = rng.choice((0, s.N, s.N + 1, 32768, 65535))
+    return at
+
+
+POINT_MISTAKES = ("equal", "decreasing", "0", "N", "any")
+
+
+def point_lists():
+    def change(kind):
+        def to_mistake(rng, s, arguments):
+            arguments["points"] = damaged_points(rng, s, arguments["points"], kind)
+        return to_mistake
+    return {f"exponent {kind}": change(kind) for kind in POINT_MISTAKES}
+
+
+def coefficients(name, values):
+    """One entry of a list of numbers set to an edge value, by name."""
+    def change(value):
+        def to_value(rng, s, arguments):
+            if arguments[name]:
+                arguments[name] = put(arguments[name], rng.randrange(len(arguments[name])), value(s))
+        return to_value
+    return {f"{name} {label}": change(value) for label, value in values.items()}
+
+
+def key_bytes(rng, s, arguments):
+    if len(arguments["secret_key"]) > 1:
+        at = rng.randrange(1, len(arguments["secret_key"]))
+        byte = rng.choice((0x02, 0x7F, 0x80, 0xFE, rng.randrange(256)))
+        arguments["secret_key"] = put(arguments["secret_key"], at, byte)
+
+
+def message_too_long(rng, s, arguments):
+    arguments["message"] = bytes(65536)
+
+
+def message_longest(rng, s, arguments):
+    arguments["message"] = rng.randbytes(65535)
+
+
+def message_other(rng, s, arguments):
+    text = arguments["message"]
+    arguments["message"] = put(text, 0, text[0] ^ 1) if text else b"\0"
+
+
+# ── Masks ───────────────────────────────────────────────────────────────────────────────────────
+
+MASK_EDGES = {"k": lambda s: s.k, "-k": lambda s: -s.k, "k+1": lambda s: min(s.k + 1, 32767),
+              "-k-1": lambda s: -s.k - 1, "-32768": lambda s: -32768}
+
+
+def no_mask(rng, s, arguments):
+    arguments["masks"] = []
+
+
+def nine_masks(rng, s, arguments):
+    arguments["masks"] = [0] * (9 * s.N)
+
+
+def bad_last_mask(rng, s, arguments):
+    """Behind masks that pass: 6 all the same."""
+    arguments["masks"] = [0] * (rng.randint(1, 7) * s.N) + arguments["masks"][:s.N]
+    arguments["masks"][-rng.randint(1, s.N)] = -s.k - 1
+
+
+# ── Public keys and signatures ──────────────────────────────────────────────────────────────────
+
+def change_public_key(s, arguments, change):
+    """The key with what change(points, evaluations) gives, where it has its right length."""
+    data = arguments["public_key"]
+    if len(data) != encodings.public_key_length(s):
+        return
+    at, values = encodings.read_public_key(s, data[1:])
+    at, values = change(at, values)
+    body = encodings.number_bytes(at, 2) + encodings.number_bytes(values, 3)
+    arguments["public_key"] = data[:1] + body
+
+
+def public_points():
+    def change(kind):
+        def to_mistake(rng, s, arguments):
+            change_public_key(s, arguments, lambda at, values: (damaged_points(rng, s, at, kind), values))
+        return to_mistake
+    return {f"public exponent {kind}": change(kind) for kind in POINT_MISTAKES}
+
+
+def public_evaluations():
+    def change(value):
+        def to_value(rng, s, arguments):
+            i = rng.randrange(s.t)
+            change_public_key(s, arguments, lambda at, values: (at, put(values, i, value(s))))
+        return to_value
+    edges = {"q": lambda s: s.q, "q-1": lambda s: s.q - 1, "largest": lambda s: (1 << 24) - 1}
+    return {f"public evaluation {label}": change(value) for label, value in edges.items()}
+
+
+def change_entries(change):
+    def changed(rng, s, arguments):
+        data = arguments["signature"]
+        if len(data) < 1 + 2 * s.b:
+            return
+        entries = encodings.numbers(data[1:1 + 2 * s.b], 2)
+        change(rng, s, entries)
+        arguments["signature"] = data[:1] + encodings.number_bytes(entries, 2) + data[1 + 2 * s.b:]
+    return changed
+
+
+def swap_entries(rng, s, entries):
+    i = rng.randrange(s.b - 1)
+    entries[i], entries[i + 1] = entries[i + 1], entries[i]
+
+
+def equal_entries(rng, s, entries):
+    i = rng.randrange(s.b - 1)
+    entries[i + 1] = entries[i] ^ rng.choice((0, 0x8000))
+
+
+def index_N(rng, s, entries):
+    entries[-1] = s.N | rng.choice((0, 0x8000))
+
+
+def index_last(rng, s, entries):
+    entries[-1] = (s.N - 1) | rng.choice((0, 0x8000))
+
+
+def index_any(rng, s, entries):
+    entries[rng.randrange(s.b)] = rng.randrange(65536)
+
+
+def sign_other(rng, s, entries):
+    entries[rng.randrange(s.b)] ^= 0x8000
+
+
+def z_coefficients():
+    def change(value):
+        def to_value(rng, s, arguments):
+            at = 1 + 2 * s.b + 2 * rng.randrange(s.N)
+            data = arguments["signature"]
+            if len(data) >= at + 2:
+                new = value(s).to_bytes(2, "big", signed=True)
+                arguments["signature"] = data[:at] + new + data[at + 2:]
+        return to_value
+    edges = {"-32768": lambda s: -32768, "32767": lambda s: 32767, "k-b": lambda s: s.k - s.b,
+             "k-b+1": lambda s: s.k - s.b + 1, "-(k-b)-1": lambda s: -(s.k - s.b) - 1}
+    return {f"z {label}": change(value) for label, value in edges.items()}
+
+
+def flip(name):
+    def flip_bit(rng, s, arguments):
+        data = arguments[name]
+        if data:
+            at = rng.randrange(len(data))
+            arguments[name] = put(data, at, data[at] ^ 1 << rng.randrange(8))
+    return {f"{name} bit": flip_bit}
+
+
+SIGNATURES = {
+    "entries swapped": change_entries(swap_entries), "entries equal": change_entries(equal_entries),
+    "index N": change_entries(index_N), "index N-1": change_entries(index_last),
+    "index any": change_entries(index_any), "sign other": change_entries(sign_other),
+    **z_coefficients(), **flip("signature"),
+}
+
+I16_EDGES = {"-32768": lambda s: -32768, "32767": lambda s: 32767}
+
+DAMAGES = {
+    "evaluate": {**set_numbers(), **point_lists(), **coefficients("coefficients", I16_EDGES),
+                 **longer_or_shorter("coefficients"), **longer_or_shorter("points"),
+                 **longer_or_shorter("out")},
+    "draw": {**set_numbers(), **longer_or_shorter("pool"), **longer_or_shorter("out")},
+    "public_key": {**set_bytes("secret_key"), **point_lists(), **longer_or_shorter("secret_key"),
+                   **longer_or_shorter("points"), **longer_or_shorter("out"), "key byte": key_bytes},
+    "sign": {**set_bytes("secret_key"), **point_lists(), **longer_or_shorter("secret_key"),
+             **longer_or_shorter("points"), **longer_or_shorter("masks"), **longer_or_shorter("out"),
+             **coefficients("masks", MASK_EDGES), "key byte": key_bytes, "no mask": no_mask,
+             "nine masks": nine_masks, "bad mask last": bad_last_mask,
+             "message too long": message_too_long, "message longest": message_longest},
+    "check": {**set_bytes("public_key"), **set_bytes("signature"), **longer_or_shorter("public_key"),
+              **longer_or_shorter("signature"), **public_points(), **public_evaluations(),
+              **SIGNATURES, **flip("public_key"), "message too long": message_too_long,
+              "message longest": message_longest, "message other": message_other},
+}

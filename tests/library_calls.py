@@ -1,0 +1,242 @@
+"""Seeded calls of the five library entries, good and damaged, in all five sets.
+
+A call's name is ENTRY/SET/KIND/REPEAT. Name and seed alone make it, so that one call is replayed
+without the calls before it.
+"""
+
+from functools import lru_cache
+from itertools import combinations
+from random import Random
+from typing import NamedTuple
+
+import material
+from damages import DAMAGES
+from reference import encodings
+from reference.challenge import skip_bound
+from reference.parameters import SETS
+
+
+class Call(NamedTuple):
+    name: str
+    entry: str
+    arguments: dict  # by name, in the entry's order
+
+
+# How often each kind is called, by set: a call of the reference takes longer in the later ones.
+REPEATS = (30, 5, 4, 3, 2)
+# Kinds that are called more often than once for each repeat.
+OFTEN = {"good": 4, "after failing": 2, "two damages": 4, "three damages": 2}
+
+
+# ── Good calls ──────────────────────────────────────────────────────────────────────────────────
+
+def evaluate(rng, s):
+    edge = rng.choice((1, 6, s.k, 32767))
+    coefficients = material.within(rng, s, edge)
+    out = [rng.getrandbits(32) for _ in range(s.t)]
+    return {"set": s.number, "coefficients": coefficients, "points": material.points(rng, s), "out": out}
+
+
+def draw(rng, s):
+    return with_pool(rng, s, rng.randbytes(64 * rng.randint(1, 8)))
+
+
+def with_pool(rng, s, pool):
+    out = [rng.randint(-128, 127) for _ in range(s.N)]
+    return {"set": s.number, "pool": pool, "out": out}
+
+
+def public_key(rng, s):
+    return {"secret_key": encodings.write_secret_key(s, material.key(rng, s)),
+            "points": material.points(rng, s), "out": rng.randbytes(encodings.public_key_length(s))}
+
+
+def sign(rng, s):
+    masks = [material.mask(rng, s) for _ in range(rng.choice((1, 1, 2, 3, 8)))]
+    f, at = material.key(rng, s), material.points(rng, s)
+    return with_masks(rng, s, f, at, masks, material.message(rng))
+
+
+def with_masks(rng, s, f, at, masks, message):
+    return {"secret_key": encodings.write_secret_key(s, f), "points": at,
+            "masks": [value for y in masks for value in y], "message": message,
+            "out": rng.randbytes(encodings.signature_length(s))}
+
+
+def check(rng, s):
+    f, at, text = material.key(rng, s), material.points(rng, s), material.message(rng)
+    return with_signature(s, f, at, text, material.signature(rng, s, f, at, text))
+
+
+def with_signature(s, f, at, text, signature):
+    return {"public_key": material.public_key(s, f, at), "message": text, "signature": signature}
+
+
+GOOD = {"evaluate": evaluate, "draw": draw, "public_key": public_key, "sign": sign, "check": check}
+
+
+# ── Calls made for one rule ─────────────────────────────────────────────────────────────────────
+
+def evaluate_all_equal(rng, s):
+    """The largest sums of both signs."""
+    arguments = evaluate(rng, s)
+    arguments["coefficients"] = [rng.choice((-32768, 32767, 0, -1))] * s.N
+    return arguments
+
+
+def pool_of_values(rng, length, values):
+    body = b"".join(v.to_bytes(2, "big") for v in values)
+    return rng.randbytes(8) + body.ljust(length - 8, b"\0")
+
+
+def draw_zeros(rng, s):
+    return with_pool(rng, s, bytes(64 * rng.randint(1, 8)))
+
+
+def draw_wrong_pool(rng, s):
+    return with_pool(rng, s, rng.randbytes(rng.choice((0, 1, 63, 65, 96, 511, 513, 576))))
+
+
+def skipped_values(rng, s, kept, count):
+    """Values that the drawer skips: from the skip bound on, or of an index kept before."""
+    top = [v for v in (skip_bound(s), 65535) if v < 65536]
+    repeats = [i + s.N * rng.randrange(65536 // s.N) for i in kept]
+    return [rng.choice(top + repeats) for _ in range(count)]
+
+
+def draw_at_the_last_value(rng, s, spent=False):
+    """Index b is drawn by the pool's very last value; or not quite, and the pool is spent."""
+    shortest = 64 * ((8 + 2 * s.b + 63) // 64)
+    length = rng.randrange(shortest, 513, 64)
+    indices = rng.sample(range(s.N), s.b)
+    values = indices[:-1]
+    values += skipped_values(rng, s, values, (length - 8) // 2 - s.b)
+    values += skipped_values(rng, s, indices[:-1], 1) if spent else indices[-1:]
+    return with_pool(rng, s, pool_of_values(rng, length, values))
+
+
+def draw_spent_at_the_last_value(rng, s):
+    return draw_at_the_last_value(rng, s, spent=True)
+
+
+def draw_about_the_skip_bound(rng, s):
+    bound = skip_bound(s)
+    edges = [0, 1, s.N - 1, s.N, bound - 1, bound - s.N, bound, 65535]
+    values = [rng.choice(edges) if rng.random() < 0.5 else rng.randrange(65536) for _ in range(252)]
+    return with_pool(rng, s, pool_of_values(rng, 512, values))
+
+
+def sign_after_failing(rng, s):
+    """Masks that are passed over, then one that passes, then any."""
+    f, at, text = material.key(rng, s), material.points(rng, s), material.message(rng)
+    failing = rng.randint(1, 7)
+    masks = [material.failing_mask(rng, s, f, at, text) for _ in range(failing)]
+    masks.append(material.passing_mask(rng, s))
+    masks += [material.mask(rng, s) for _ in range(rng.randint(0, 8 - len(masks)))]
+    return with_masks(rng, s, f, at, masks, text)
+
+
+def sign_none_passes(rng, s):
+    f, at, text = material.key(rng, s), material.points(rng, s), material.message(rng)
+    masks = [material.failing_mask(rng, s, f, at, text) for _ in range(rng.choice((1, 2, 8)))]
+    return with_masks(rng, s, f, at, masks, text)
+
+
+def sign_at_the_edge(rng, s):
+    """Sparse keys, the mask's largest coefficient at ±(k - b) or one beyond."""
+    y = material.passing_mask(rng, s)
+    y[rng.randrange(s.N)] = rng.choice((-1, 1)) * (s.k - s.b + rng.randint(-1, 2))
+    masks = [y, material.passing_mask(rng, s)]
+    f, at = material.sparse_key(rng, s), material.points(rng, s)
+    return with_masks(rng, s, f, at, masks, material.message(rng))
+
+
+def sign_tight(rng, s):
+    masks = [material.tight_mask(rng, s) for _ in range(rng.randint(1, 4))]
+    f, at = material.key(rng, s), material.points(rng, s)
+    return with_masks(rng, s, f, at, masks, material.message(rng))
+
+
+def check_at(beyond):
+    """z at k - b, or beyond it with a challenge that fits: a no for its range alone."""
+    def make(rng, s):
+        at, text = material.points(rng, s), material.message(rng)
+        f, signature = material.edge_signature(rng, s, at, text, beyond)
+        return with_signature(s, f, at, text, signature)
+    return make
+
+
+def check_of_another_key(rng, s):
+    f, other = material.key(rng, s), material.key(rng, s)
+    at, text = material.points(rng, s), material.message(rng)
+    return with_signature(s, other, at, text, material.signature(rng, s, f, at, text))
+
+
+def check_any_bytes(rng, s):
+    """Entries in order and z in range, but nobody signed."""
+    entries = [i | rng.choice((0, 0x8000)) for i in sorted(rng.sample(range(s.N), s.b))]
+    z = encodings.number_bytes(material.within(rng, s, s.k - s.b), 2, signed=True)
+    signature = bytes([s.number]) + encodings.number_bytes(entries, 2) + z
+    f, at = material.key(rng, s), material.points(rng, s)
+    return with_signature(s, f, at, material.message(rng), signature)
+
+
+SPECIAL = {
+    "evaluate": {"all equal": evaluate_all_equal},
+    "draw": {"zeros": draw_zeros, "wrong pool": draw_wrong_pool, "last value": draw_at_the_last_value,
+             "spent at last": draw_spent_at_the_last_value, "skip bound": draw_about_the_skip_bound},
+    "public_key": {},
+    "sign": {"after failing": sign_after_failing, "none passes": sign_none_passes,
+             "edge": sign_at_the_edge, "tight": sign_tight},
+    "check": {"z at k-b": check_at(0), "z at k-b+1": check_at(1), "z at k-b+2": check_at(2),
+              "another key": check_of_another_key, "any bytes": check_any_bytes},
+}
+
+
+# ── All calls ───────────────────────────────────────────────────────────────────────────────────
+
+def damaged_by(entry, *names):
+    def make(rng, s):
+        arguments = GOOD[entry](rng, s)
+        for name in names:
+            DAMAGES[entry][name](rng, s, arguments)
+        return arguments
+    return make
+
+
+def damaged(entry, how_many):
+    def make(rng, s):
+        return damaged_by(entry, *rng.sample(sorted(DAMAGES[entry]), how_many))(rng, s)
+    return make
+
+
+@lru_cache(maxsize=None)
+def kinds(entry):
+    """Each kind's name and maker, for every set."""
+    return {"good": GOOD[entry], **SPECIAL[entry],
+            **{name: damaged_by(entry, name) for name in DAMAGES[entry]},
+            "two damages": damaged(entry, 2), "three damages": damaged(entry, 3)}
+
+
+@lru_cache(maxsize=None)
+def pairs(entry):
+    """Every two damages together, for the order of the tests. Set 0 alone: it is quick."""
+    return {f"{a} and {b}": damaged_by(entry, a, b) for a, b in combinations(DAMAGES[entry], 2)}
+
+
+def names():
+    for entry in GOOD:
+        for s in SETS:
+            for kind in kinds(entry):
+                for repeat in range(REPEATS[s.number] * OFTEN.get(kind, 1)):
+                    yield f"{entry}/{s.number}/{kind}/{repeat}"
+        for pair in pairs(entry):
+            for repeat in range(2):
+                yield f"{entry}/0/{pair}/{repeat}"
+
+
+def make(seed, name):
+    entry, set_number, kind, _ = name.split("/")
+    rng = Random(f"{seed} {name}")
+    maker = kinds(entry).get(kind) or pairs(entry)[kind]
+    return Call(name, entry, maker(rng, SETS[int(set_number)]))

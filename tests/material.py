@@ -1,0 +1,108 @@
+"""Random points, keys, masks, messages and signatures, for library calls and sessions alike."""
+
+from reference import encodings, signing
+from reference.challenge import draw, pool_of
+from reference.polynomials import evaluations
+
+MESSAGE_EDGES = (0, 1, 111, 112)  # 111 is the longest message of one SHA-512 block
+
+
+def points(rng, s):
+    chosen = rng.sample(range(1, s.N), s.t)
+    if rng.random() < 0.5:  # both ends of 1..N-1
+        inner = [j for j in chosen if j not in (1, s.N - 1)]
+        chosen = [1, s.N - 1] + inner[:s.t - 2]
+        chosen += [j for j in range(2, s.N - 1) if j not in chosen][:s.t - len(chosen)]
+    return sorted(chosen)
+
+
+def sparse_key(rng, s):
+    """Few entries, so that a point stays close to its mask."""
+    f = [0] * s.N
+    for _ in range(rng.randint(0, 3)):
+        f[rng.randrange(s.N)] = rng.choice((-1, 1))
+    return f
+
+
+def key(rng, s):
+    kind = rng.random()
+    if kind < 0.15:
+        return sparse_key(rng, s)
+    if kind < 0.25:
+        return [rng.choice((-1, 1))] * s.N
+    return [rng.randint(-1, 1) for _ in range(s.N)]
+
+
+def passing_mask(rng, s):
+    """Within k - 2b, so that the point is in range whatever key and challenge are."""
+    return within(rng, s, s.k - 2 * s.b)
+
+
+def within(rng, s, bound):
+    return [rng.randint(-bound, bound) for _ in range(s.N)]
+
+
+def tight_mask(rng, s):
+    """A few coefficients about ±(k - b): passes or fails by a little."""
+    y = passing_mask(rng, s)
+    for _ in range(rng.randint(1, 3)):
+        y[rng.randrange(s.N)] = rng.choice((-1, 1)) * (s.k - s.b + rng.randint(-4, min(4, s.b)))
+    return y
+
+
+def corner_mask(rng, s):
+    """Coefficients of ±k: all but always passed over."""
+    if rng.random() < 0.3:
+        return [rng.choice((-s.k, s.k))] * s.N
+    y = passing_mask(rng, s)
+    y[rng.randrange(s.N)] = rng.choice((-s.k, s.k))
+    return y
+
+
+def mask(rng, s):
+    make = rng.choice((passing_mask, tight_mask, corner_mask, lambda rng, s: within(rng, s, s.k)))
+    return make(rng, s)
+
+
+def failing_mask(rng, s, f, at, message):
+    """A mask that is passed over, found by trying."""
+    while True:
+        y = rng.choice((corner_mask, tight_mask))(rng, s)
+        if signing.try_mask(s, f, at, y, message) is None:
+            return y
+
+
+def message(rng):
+    kind = rng.random()
+    if kind < 0.4:
+        return rng.randbytes(rng.choice(MESSAGE_EDGES))
+    if kind < 0.43:
+        return rng.randbytes(65535)
+    return rng.randbytes(rng.randint(0, 300))
+
+
+def public_key(s, f, at):
+    return encodings.write_public_key(s, at, evaluations(s, f, at))
+
+
+def unranged_signature(s, f, at, y, text):
+    """The challenge and point of a mask, whether z is in range or not: the challenge always fits."""
+    c = draw(s, pool_of(evaluations(s, y, at), text))
+    return c, signing.point(s, f, c, y)
+
+
+def edge_signature(rng, s, at, text, beyond):
+    """A key and a signature whose challenge fits and whose largest |z| is just k - b + beyond."""
+    while True:
+        f = sparse_key(rng, s)
+        y = passing_mask(rng, s)
+        y[rng.randrange(s.N)] = rng.choice((-1, 1)) * (s.k - s.b + beyond)
+        c, z = unranged_signature(s, f, at, y, text)
+        if c is not None and max(map(abs, z)) == s.k - s.b + beyond:
+            return f, encodings.write_signature(s, c, z)
+
+
+def signature(rng, s, f, at, text):
+    """One that the check says yes to."""
+    c, z = unranged_signature(s, f, at, passing_mask(rng, s), text)
+    return encodings.write_signature(s, c, z)

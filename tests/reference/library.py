@@ -1,0 +1,102 @@
+"""The library's entries: tests in document 01's order, answers as the C entries give them.
+
+Points, coefficients and masks are lists of numbers, encodings and messages are bytes, and the last
+argument but of `check` is the lent result buffer, a list or a bytearray written in place. A refused
+call leaves it.
+"""
+
+from functools import wraps
+
+from . import encodings, signing
+from .challenge import draw as draw_challenge, is_pool_length
+from .parameters import SETS
+from .polynomials import are_points, evaluations, is_key, is_mask
+from .refusals import (CHALLENGE_INDEX, EVALUATION, EXPONENTS, KEY_VALUE, LENGTH, MASK_COEFFICIENT,
+                       NO_MASK_PASSES, POOL_SPENT, Refused, SET, refuse_unless)
+
+MOST_MESSAGE_BYTES = 65535
+MOST_MASKS = 8
+YES, NO, DONE = 256, 0, 0
+SIGNED = 256  # plus the number passed over
+
+
+def answers_refusals(entry):
+    @wraps(entry)
+    def answer(*arguments):
+        try:
+            return entry(*arguments)
+        except Refused as refusal:
+            return refusal.number
+    return answer
+
+
+def set_of(number):
+    refuse_unless(number < len(SETS), SET)
+    return SETS[number]
+
+
+@answers_refusals
+def evaluate(set_number, coefficients, points, out):
+    s = set_of(set_number)
+    refuse_unless(len(coefficients) == s.N and len(points) == len(out) == s.t, LENGTH)
+    refuse_unless(are_points(s, points), EXPONENTS)
+    out[:] = evaluations(s, coefficients, points)
+    return DONE
+
+
+@answers_refusals
+def draw(set_number, pool, out):
+    s = set_of(set_number)
+    refuse_unless(is_pool_length(len(pool)) and len(out) == s.N, LENGTH)
+    challenge = draw_challenge(s, pool)
+    refuse_unless(challenge is not None, POOL_SPENT)
+    out[:] = challenge
+    return DONE
+
+
+@answers_refusals
+def public_key(secret_key, points, out):
+    refuse_unless(len(secret_key) > 0, LENGTH)
+    s = set_of(secret_key[0])
+    refuse_unless(len(secret_key) == encodings.secret_key_length(s), LENGTH)
+    refuse_unless(len(points) == s.t and len(out) == encodings.public_key_length(s), LENGTH)
+    refuse_unless(are_points(s, points), EXPONENTS)
+    f = encodings.read_key(secret_key[1:])
+    refuse_unless(is_key(f), KEY_VALUE)
+    out[:] = encodings.write_public_key(s, points, evaluations(s, f, points))
+    return DONE
+
+
+@answers_refusals
+def sign(secret_key, points, masks, message, out):
+    refuse_unless(len(message) <= MOST_MESSAGE_BYTES and len(secret_key) > 0, LENGTH)
+    s = set_of(secret_key[0])
+    refuse_unless(len(secret_key) == encodings.secret_key_length(s), LENGTH)
+    refuse_unless(len(points) == s.t and len(out) == encodings.signature_length(s), LENGTH)
+    refuse_unless(len(masks) % s.N == 0 and len(masks) <= MOST_MASKS * s.N, LENGTH)
+    refuse_unless(are_points(s, points), EXPONENTS)
+    f = encodings.read_key(secret_key[1:])
+    refuse_unless(is_key(f), KEY_VALUE)
+    refuse_unless(is_mask(s, masks), MASK_COEFFICIENT)
+    each = [masks[at:at + s.N] for at in range(0, len(masks), s.N)]
+    signed = signing.sign(s, f, points, each, message)
+    refuse_unless(signed is not None, NO_MASK_PASSES)
+    out[:] = encodings.write_signature(s, signed.challenge, signed.z)
+    return SIGNED + signed.passed_over
+
+
+@answers_refusals
+def check(public_key, message, signature):
+    refuse_unless(len(message) <= MOST_MESSAGE_BYTES, LENGTH)
+    refuse_unless(len(public_key) > 0 and len(signature) > 0, LENGTH)
+    s = set_of(public_key[0])
+    refuse_unless(signature[0] == public_key[0], SET)
+    refuse_unless(len(public_key) == encodings.public_key_length(s), LENGTH)
+    refuse_unless(len(signature) == encodings.signature_length(s), LENGTH)
+    points, public_evaluations = encodings.read_public_key(s, public_key[1:])
+    refuse_unless(are_points(s, points), EXPONENTS)
+    refuse_unless(all(value < s.q for value in public_evaluations), EVALUATION)
+    entries, z = encodings.read_signature(s, signature[1:])
+    refuse_unless(encodings.are_entries(s, entries), CHALLENGE_INDEX)
+    c = encodings.challenge_of(s, entries)
+    return YES if signing.check(s, points, public_evaluations, message, c, z) else NO

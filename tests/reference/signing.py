@@ -1,0 +1,46 @@
+"""Document 01, "Signing and checking"."""
+
+from typing import NamedTuple
+
+from .challenge import draw, pool_of
+from .polynomials import evaluations, product
+
+
+class Signed(NamedTuple):
+    passed_over: int
+    challenge: list
+    z: list
+
+
+def point(s, f, c, y):
+    """z = f ⋆ c + y."""
+    return [p + value for p, value in zip(product(s, f, c), y)]
+
+
+def in_range(s, z):
+    return all(-(s.k - s.b) <= value <= s.k - s.b for value in z)
+
+
+def try_mask(s, f, points, y, message):
+    """The challenge and the point of a mask that passes, else None."""
+    c = draw(s, pool_of(evaluations(s, y, points), message))
+    if c is None:
+        return None
+    z = point(s, f, c, y)
+    return (c, z) if in_range(s, z) else None
+
+
+def sign(s, f, points, masks, message):
+    """The first mask that passes signs. None when there is no mask or none passes."""
+    for passed_over, y in enumerate(masks):
+        tried = try_mask(s, f, points, y, message)
+        if tried is not None:
+            return Signed(passed_over, *tried)
+    return None
+
+
+def check(s, points, public_evaluations, message, c, z):
+    """Yes when z is in range and the drawn challenge exists and equals the given one."""
+    pairs = zip(evaluations(s, z, points), public_evaluations, evaluations(s, c, points))
+    commitment = [(of_z - public * of_c) % s.q for of_z, public, of_c in pairs]
+    return in_range(s, z) and draw(s, pool_of(commitment, message)) == c

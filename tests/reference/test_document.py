@@ -1,0 +1,150 @@
+"""The worked cases of document 01, held to this reference. Run first: a reference that misses the
+document's own cases is no judge of the kit."""
+
+import sys
+from pathlib import Path
+from random import Random
+
+sys.path.insert(0, str(Path(__file__).resolve().parent.parent))
+
+from reference import encodings, library, session  # noqa: E402
+from reference.challenge import draw, pool_of, skip_bound  # noqa: E402
+from reference.parameters import SETS, is_sound  # noqa: E402
+from reference.polynomials import evaluation, evaluations, product  # noqa: E402
+from reference.signing import in_range, point, sign  # noqa: E402
+
+HAND = SETS[0]
+POINTS = [1, 2]
+KEY = [1, -1, 0, 1, 0]
+CHALLENGE = [0, 0, 1, -1, 0]
+
+
+def test_sets():
+    assert [s.number for s in SETS] == [0, 1, 2, 3, 4]
+    assert all(is_sound(s) for s in SETS)
+    assert [encodings.signature_length(SETS[i]) for i in (0, 4)] == [15, 2379]
+
+
+def test_drawn_pools():
+    start = bytes.fromhex("02 00000000000000 0007 000C FFFF 0003")
+    for length in (64, 128, 512):
+        assert draw(HAND, start.ljust(length, b"\0")) == CHALLENGE
+    assert skip_bound(HAND) == 65535
+    assert draw(HAND, bytes(64)) is None
+    out = [7] * 5
+    assert library.draw(0, bytes(64), out) == 11 and out == [7] * 5
+
+
+def test_evaluations():
+    assert evaluations(HAND, KEY, POINTS) == [7, 30]
+    for key in ([0, -1, 0, -1, 0], [1, 0, 1, 0, 1]):
+        assert evaluations(HAND, key, POINTS) == [21, 25]
+
+
+def test_quick_evaluations_are_the_definition():
+    rng = Random(1)
+    for s in SETS:
+        for low, high in ((-32768, 32767), (-32768, -32768), (32767, 32767), (-1, 1)):
+            a = [rng.randint(low, high) for _ in range(s.N)]
+            points = [1, s.N - 1] + rng.sample(range(1, s.N), 3)
+            assert evaluations(s, a, points) == [evaluation(s, a, j) for j in points]
+
+
+def test_products_and_masks():
+    assert product(HAND, KEY, CHALLENGE) == [1, -1, 1, -2, 1]
+    assert point(HAND, KEY, CHALLENGE, [3, 4, -5, 2, 0]) == [4, 3, -4, 0, 1]
+    assert in_range(HAND, [4, 3, -4, 0, 1])
+    out = point(HAND, KEY, CHALLENGE, [3, 4, -6, 2, 0])
+    assert out[2] == -5 and not in_range(HAND, out)
+
+
+def test_two_keys_one_point():
+    c = [0, 0, 1, 1, 0]
+    pairs = (([0, -1, 0, -1, 0], [5, 0, -4, 0, -2]), ([1, 0, 1, 0, 1], [3, -2, -6, -2, -4]))
+    for key, mask in pairs:
+        assert point(HAND, key, c, mask) == [4, -1, -4, -1, -3]
+        assert evaluations(HAND, mask, POINTS) == [19, 18]
+
+
+def test_encoded_signature():
+    z = point(HAND, KEY, CHALLENGE, [3, 4, -5, 2, 0])
+    encoded = bytes.fromhex("00 0002 8003 0004 0003 FFFC 0000 0001")
+    assert encodings.write_signature(HAND, CHALLENGE, z) == encoded
+    entries, z_read = encodings.read_signature(HAND, encoded[1:])
+    assert encodings.challenge_of(HAND, entries) == CHALLENGE and z_read == z
+
+
+def test_pool_of_the_message():
+    pool = pool_of([256, 511], b"m")
+    assert len(pool) == 512 and pool == pool_of([0, 255], b"m") != pool_of([0, 255], b"n")
+
+
+def test_signed_is_checked_in_every_set():
+    rng = Random(2)
+    for s in SETS:
+        points = sorted(rng.sample(range(1, s.N), s.t))
+        key = [rng.randint(-1, 1) for _ in range(s.N)]
+        small = s.k - 2 * s.b
+        mask = [rng.randint(-small, small) for _ in range(s.N)]
+        signed = sign(s, key, points, [mask], b"a message")
+        signature = encodings.write_signature(s, signed.challenge, signed.z)
+        public = encodings.write_public_key(s, points, evaluations(s, key, points))
+        assert library.check(public, b"a message", signature) == 256
+        assert library.check(public, b"A message", signature) == 0
+
+
+TRANSCRIPT_FILE = bytes.fromhex(
+    "50534731 0100 0200010002 0301FF000100 0400030004FFFA00020000 0400070000000000000000 06 00")
+TRANSCRIPT = b"1 01 0\n2 02 0\n3 03 0 7 30\n4 04 0\n5 04 6\n6 06 10\n7 00 0\n"
+
+
+def test_session_transcript():
+    assert session.play_to_the_end(TRANSCRIPT_FILE) == TRANSCRIPT
+
+
+def test_before_the_first_command_and_at_the_end():
+    played = session.play_to_the_end
+    assert played(b"") == played(b"PSG") == played(b"PSG2\0") == b"0 00 15\n"
+    assert played(b"PSG1".ljust(65537, b"\0")) == b"0 00 1\n"
+    assert played(b"PSG1".ljust(65536, b"\0")) == b"1 00 16\n"
+    assert played(b"PSG1") == b"1 00 13\n"
+    assert played(b"PSG1\xab") == b"1 AB 14\n"
+    assert played(b"PSG1\x06") == b"1 06 3\n"
+    assert played(b"PSG1\1\5\1\0\2\0") == b"1 01 2\n2 01 0\n3 02 13\n"
+
+
+def test_lent_rows():
+    """Row buffers of the wrong length, bytes behind the row, another file, plays after the end."""
+    opened = session.open_session()
+    for length in (0, 16383, 16385):
+        short = bytearray(b"\xee" * length)
+        after, answer = session.play(opened, b"", short)
+        assert after == opened and answer == session.ROW_BUFFER_AT_FAULT
+        assert short == b"\xee" * length
+    rows = bytearray(b"\xee" * 16384)
+    second, answer = session.play(opened, TRANSCRIPT_FILE, rows)
+    assert answer == session.Row(0) and rows == b"1 01 0\n" + b"\xee" * 16377
+    for shorter in (b"", b"no tag", bytes(6)):
+        ended, answer = session.play(second, shorter, rows)
+        assert answer == session.Row(13) and rows.startswith(b"2 00 13\n\xee")
+    longer, answer = session.play(second, bytes(6) + b"\x01\x03".ljust(70000, b"\0"), rows)
+    assert answer == session.Row(0) and longer.set == SETS[3]
+    before = bytes(rows)
+    assert session.play(ended, TRANSCRIPT_FILE, rows) == (ended, session.HAS_ENDED)
+    assert session.play(ended, b"", bytearray(3)) == (ended, session.ROW_BUFFER_AT_FAULT)
+    assert rows == before
+
+
+def main():
+    cases = [(name, case) for name, case in sorted(globals().items()) if name.startswith("test_")]
+    for name, case in cases:
+        try:
+            case()
+        except AssertionError:
+            print(f"reference: {name} fails")
+            raise
+    print(f"reference: {len(cases)} groups of document 01's cases hold")
+
+
+if __name__ == "__main__":
+    main()

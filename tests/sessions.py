@@ -1,0 +1,326 @@
+"""Seeded session files, good and damaged, in all five sets.
+
+A session's name is SET/KIND/REPEAT; name and seed alone make it. A writer plays what it has written,
+so that the next command can use what is held: most commands are accepted, and each mistake is meant.
+"""
+
+from random import Random
+
+import material
+from damages import POINT_MISTAKES, damaged_points, put
+from reference import encodings
+from reference.parameters import SETS
+from reference.session import MOST_FILE_BYTES, ROW_BUFFER_BYTES, TAG_BYTES, open_session, play
+
+# How often each kind is made, by set: sessions of the later sets are long.
+REPEATS = (100, 16, 10, 8, 6)
+MISTAKE = 0.12  # how often an operand is wrong in a walk
+
+
+class Writer:
+    def __init__(self, rng, s):
+        self.rng, self.start = rng, s
+        self.file = bytearray(TAG_BYTES)
+        self.session, self.rows = open_session(), bytearray(ROW_BUFFER_BYTES)
+        self.signature = None  # the operand for 07 that the last accepted 06 gives
+
+    @property
+    def set(self):
+        return self.session.set or self.start
+
+    def add(self, command, operand=b""):
+        """Appends a command and plays it. Nothing is added after the session's end."""
+        if self.session.ended:
+            return
+        self.file += bytes([command]) + operand
+        self.session, answer = play(self.session, bytes(self.file), self.rows)
+        if command == 0x06 and answer.number == 0:
+            row = self.rows[:self.rows.index(b"\n")]
+            self.signature = bytes.fromhex(row.split(b" ")[4].decode())[1:]
+
+
+# ── Operands ────────────────────────────────────────────────────────────────────────────────────
+
+def wrong(rng, mistakes):
+    return rng.random() < mistakes
+
+
+def set_operand(w, mistakes):
+    if wrong(w.rng, mistakes):
+        return bytes([w.rng.choice((5, 255, w.rng.randrange(256)))])
+    return bytes([w.start.number])
+
+
+def points_operand(w, mistakes):
+    at = material.points(w.rng, w.set)
+    if wrong(w.rng, mistakes):
+        at = damaged_points(w.rng, w.set, at, w.rng.choice(POINT_MISTAKES))
+    return encodings.number_bytes(at, 2)
+
+
+def key_operand(w, mistakes):
+    data = encodings.write_key(material.key(w.rng, w.set))
+    if wrong(w.rng, mistakes):
+        data = put(data, w.rng.randrange(len(data)), w.rng.choice((2, 0x80, 0xFE)))
+    return data
+
+
+def mask_operand(w, mistakes):
+    y = material.mask(w.rng, w.set)
+    if wrong(w.rng, mistakes):
+        y[w.rng.randrange(len(y))] = w.rng.choice((-w.set.k - 1, min(w.set.k + 1, 32767), -32768))
+    return encodings.number_bytes(y, 2, signed=True)
+
+
+def message_operand(w, mistakes):
+    return w.rng.randbytes(64)
+
+
+def nothing(w, mistakes):
+    return b""
+
+
+def signature_operand(w, mistakes):
+    """The last one made, one made with the held key, or one out of the blue; sometimes damaged."""
+    s, held = w.set, w.session
+    size = 2 * s.b + 2 * s.N
+    if w.signature is not None and len(w.signature) == size and w.rng.random() < 0.6:
+        data = w.signature
+    elif held.key is not None and held.message is not None:
+        data = material.signature(w.rng, s, held.key, held.points, held.message)[1:]
+    else:
+        entries = encodings.number_bytes(sorted(w.rng.sample(range(s.N), s.b)), 2)
+        data = entries + encodings.number_bytes(material.passing_mask(w.rng, s), 2, signed=True)
+    if wrong(w.rng, 2 * mistakes):
+        at = w.rng.choice((w.rng.randrange(size), w.rng.randrange(2 * s.b)))
+        data = put(data, at, data[at] ^ 1 << w.rng.randrange(8))
+    return data
+
+
+def evaluations_operand(w, mistakes):
+    s, held = w.set, w.session
+    public = held.evaluations if held.evaluations and w.rng.random() < 0.7 else None
+    public = list(public or [w.rng.randrange(s.q) for _ in range(s.t)])
+    if wrong(w.rng, mistakes):
+        public[w.rng.randrange(s.t)] = w.rng.choice((s.q, s.q + 1, (1 << 24) - 1))
+    return encodings.number_bytes(public, 3)
+
+
+OPERANDS = {0x01: set_operand, 0x02: points_operand, 0x03: key_operand, 0x04: mask_operand,
+            0x05: message_operand, 0x06: nothing, 0x07: signature_operand, 0x08: evaluations_operand}
+
+
+def add(w, command, mistakes=0.0):
+    w.add(command, OPERANDS[command](w, mistakes))
+
+
+# ── Sessions ────────────────────────────────────────────────────────────────────────────────────
+
+def begun(rng, s):
+    """Set, points, key and message are held."""
+    w = Writer(rng, s)
+    for command in (0x01, 0x02, 0x03, 0x05):
+        add(w, command)
+    return w
+
+
+def signing(rng, s):
+    """Many 06 with masks passed over, each signature checked, sometimes by evaluations alone."""
+    w = begun(rng, s)
+    for _ in range(rng.randint(1, 4 if s.number == 0 else 2)):
+        for _ in range(rng.randint(0, 4)):
+            add(w, 0x04)
+        add(w, 0x06)
+        if rng.random() < 0.2:
+            add(w, 0x08)
+        add(w, 0x07, MISTAKE)
+        if rng.random() < 0.3:
+            add(w, 0x05)
+    w.add(0x00)
+    return bytes(w.file)
+
+
+def passed_over(rng, s):
+    """Masks that fail before one that passes; then 06 until 9; then 06 with none held."""
+    w = begun(rng, s)
+    held = w.session
+    for _ in range(rng.randint(1, 7)):
+        y = material.failing_mask(rng, s, held.key, held.points, held.message)
+        w.add(0x04, encodings.number_bytes(y, 2, signed=True))
+    for _ in range(rng.randint(1, 2)):
+        w.add(0x04, encodings.number_bytes(material.passing_mask(rng, s), 2, signed=True))
+    for _ in range(rng.randint(1, 4)):
+        add(w, 0x06)
+    w.add(0x00)
+    return bytes(w.file)
+
+
+def many_masks(rng, s):
+    """The ninth is 8, good or not; after 06 places are free again."""
+    w = begun(rng, s)
+    for count in (9, 2):
+        for _ in range(count):
+            add(w, 0x04, MISTAKE)
+        add(w, 0x06)
+    w.add(0x00)
+    return bytes(w.file)
+
+
+def walk_on(w, steps, mistakes):
+    commands = (0x01, 0x02, 0x03, 0x04, 0x04, 0x04, 0x05, 0x06, 0x06, 0x07, 0x07, 0x08)
+    for _ in range(steps):
+        add(w, w.rng.choice(commands), mistakes)
+    return w
+
+
+def walk(rng, s):
+    """Any commands in any order; what is missing is 10."""
+    w = Writer(rng, s)
+    add(w, 0x01, MISTAKE)
+    if rng.random() < 0.8:
+        add(w, 0x01)
+    walk_on(w, rng.randint(0, 40 if s.number == 0 else 10), MISTAKE)
+    w.add(0x00)
+    return bytes(w.file)
+
+
+def repeated(rng, s):
+    """01, 02, 03 and 08 again, and what each forgets shows in a 06 and a 07."""
+    w = begun(rng, s)
+    for _ in range(rng.randint(1, 3)):
+        for command in (0x04, 0x06, rng.choice((0x01, 0x02, 0x03, 0x05, 0x08)), 0x04, 0x07, 0x06):
+            add(w, command, MISTAKE / 3)
+    w.add(0x00)
+    return bytes(w.file)
+
+
+def forgets(rng, s):
+    """A command that forgets, or that is refused and forgets nothing; some held again; 06 and 07."""
+    w = begun(rng, s)
+    for _ in range(rng.randint(1, 3)):
+        add(w, 0x04)
+    add(w, rng.choice((0x01, 0x02, 0x03, 0x08)), rng.choice((0, 1)))
+    for command in (0x02, 0x03, 0x08, 0x05, 0x04):
+        if rng.random() < 0.3:
+            add(w, command)
+    for command in (0x07, 0x06, 0x07):
+        add(w, command)
+    w.add(0x00)
+    return bytes(w.file)
+
+
+def two_mistakes(rng, s):
+    """Something is not held and the operand is wrong too: 10 and 8 come before its own number."""
+    w = Writer(rng, s)
+    add(w, 0x01)
+    for command in (0x02, 0x03, 0x05):
+        if rng.random() < 0.4:
+            add(w, command)
+    for _ in range(3):
+        add(w, rng.choice((0x03, 0x07, 0x08)), 1)
+    w.add(0x00)
+    return bytes(w.file)
+
+
+def before_set(command):
+    """3, also after a refused 01 and where the operand is short."""
+    def make(rng, s):
+        w = Writer(rng, s)
+        for _ in range(rng.randint(0, 2)):
+            w.add(0x01, bytes([rng.randint(5, 255)]))
+        operand = OPERANDS[command](w, 0)
+        w.add(command, operand[:rng.choice((0, len(operand)))])
+        return bytes(w.file) + rng.choice((b"", b"\0"))
+    return make
+
+
+def cut_inside(command):
+    """The file ends inside the operand, just behind the command or just before the last byte."""
+    def make(rng, s):
+        w = Writer(rng, s)
+        add(w, 0x01)
+        if rng.random() < 0.5:  # else 10 is due as well, and 13 comes before it
+            w = walk_on(begun(rng, s), rng.randint(0, 3), 0)
+        operand = OPERANDS[command](w, MISTAKE)
+        w.add(command, operand[:rng.choice((0, 1, len(operand) // 2, len(operand) - 1)) % len(operand)])
+        return bytes(w.file)
+    return make
+
+
+def good(rng, s):
+    return rng.choice((signing, passed_over, walk, repeated))(rng, s)
+
+
+def cut(rng, s):
+    file = good(rng, s)
+    return file[:rng.randrange(len(file) + 1)]
+
+
+def cut_by_one(rng, s):
+    """The 00 is missing, or the operand's last byte before it."""
+    return good(rng, s)[:-rng.randint(1, 2)]
+
+
+def flipped(rng, s):
+    file = good(rng, s)
+    for _ in range(rng.randint(1, 3)):
+        at = rng.randrange(len(file))
+        file = put(file, at, file[at] ^ 1 << rng.randrange(8))
+    return file
+
+
+def unknown(rng, s):
+    w = begun(rng, s)
+    walk_on(w, rng.randint(0, 3), MISTAKE)
+    return bytes(w.file) + bytes([rng.choice((9, 10, 0x1A, 0xAF, 255, rng.randint(9, 255)))]) + b"\0"
+
+
+def wrong_tag(rng, s):
+    file = good(rng, s)
+    at = rng.randrange(4)
+    return rng.choice((file[:at], put(file, at, file[at] ^ 1 << rng.randrange(8)), file[1:]))
+
+
+def after_end(rng, s):
+    return good(rng, s) + rng.randbytes(rng.randint(1, 3))
+
+
+def any_bytes(rng, s):
+    length = rng.randint(0, 80)
+    body = bytes(rng.choice((*range(9), rng.randrange(256))) for _ in range(length))
+    return TAG_BYTES + bytes([1, s.number]) + body
+
+
+def longest(rng, s):
+    """65,536 bytes, played to their 00; or one more, which is 1 whatever the tag."""
+    w = walk_on(begun(rng, s), 4, 0)
+    file = bytes(w.file)
+    while len(file) + 65 < MOST_FILE_BYTES:
+        file += b"\x05" + rng.randbytes(64)
+    file = file.ljust(MOST_FILE_BYTES - 1, b"\x06") + b"\0"
+    return rng.choice((file, file, file + b"\0", b"?" + file, file + bytes(5000)))
+
+
+KINDS = {"signing": signing, "passed over": passed_over, "many masks": many_masks, "walk": walk,
+         "repeated": repeated, "forgets": forgets, "two mistakes": two_mistakes, "cut": cut,
+         "cut by one": cut_by_one, "flipped": flipped, "unknown": unknown, "wrong tag": wrong_tag,
+         "after end": after_end, "any bytes": any_bytes, "longest": longest}
+KINDS |= {f"{command:02X} before 01": before_set(command) for command in range(2, 9)}
+KINDS |= {f"cut inside {command:02X}": cut_inside(command) for command in (1, 2, 3, 4, 5, 7, 8)}
+# One for so many repeats; the kinds for one command are many.
+SELDOM = {"longest": 10, "wrong tag": 3,
+          **{kind: 10 for kind in KINDS if "before 01" in kind or "cut inside" in kind}}
+OFTEN = {"signing": 2, "walk": 3, "repeated": 2, "flipped": 2}
+
+
+def names():
+    for s in SETS:
+        for kind in KINDS:
+            repeats = -(-REPEATS[s.number] * OFTEN.get(kind, 1) // SELDOM.get(kind, 1))
+            for repeat in range(repeats):
+                yield f"{s.number}/{kind}/{repeat}"
+
+
+def make(seed, name):
+    set_number, kind, _ = name.split("/")
+    return KINDS[kind](Random(f"{seed} session {name}"), SETS[int(set_number)])
