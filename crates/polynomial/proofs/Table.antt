@@ -3,7 +3,7 @@
 use mathlib.Core.Path.{_≡_, refl, sym, ap, ap₂, _∙_}
 use mathlib.Core.List.{List, [], _∷_, map}
 use Prim.Native.Nat.{ℕ, zero, suc, _+_, _*_, _%_, _^_, _<_}
-use native.Mathlib.Nat.{zero-mul, zero-mod, mod-add-mod, suc-mul, mod-lt, mod-mod, mod-eq-of-lt, le-of-suc-le-suc, not-suc-le-zero}
+use native.Mathlib.Nat.{zero-mul, zero-mod, one-mul, add-mul, add-mod, mod-lt, mod-mod, mod-eq-of-lt, le-of-suc-le-suc, not-suc-le-zero}
 use native.Mathlib.Numerals.{add-one}
 use native.Mathlib.Omega.{arith}
 use lib.IntN.{ℤ, pos, _+ℤ_}
@@ -13,7 +13,7 @@ use Rattle.algebra.proofs.Congruence.{Cong, cong-refl, cong-eq, cong-sym, cong-
 use Rattle.algebra.proofs.Remainder.{pow-round}
 use Rattle.algebra.proofs.Sum.{sum-cong}
 use Rattle.parameters.specs.declared.Params.{Params}
-use Rattle.polynomial.specs.Evaluation.{term, evaluation, evaluations, Below, Evaluable}
+use Rattle.polynomial.specs.Evaluation.{term, evaluation, evaluations, Below, Evaluable, productAt, readTerm}
 use Rattle.polynomial.proofs.Horner.{at}
 use Rattle.polynomial.proofs.EvaluationLaws.{evaluation-of-cong}
 
@@ -21,40 +21,51 @@ use Rattle.polynomial.proofs.EvaluationLaws.{evaluation-of-cong}
 pub place-first : (j n : ℕ) → 0 ≡ 0 * j % n
 place-first j n = rw (zero-mul, zero-mod)
 
-pub place-next : (i j n : ℕ) {k r : ℕ} → k ≡ i * j % n → r ≡ (k + j) % n → r ≡ (i + 1) * j % n
-place-next i j n {k} {r} e f =
-    f ∙ ap (λ (x : ℕ). (x + j) % n) e ∙ mod-add-mod (i * j) n j ∙ ap (λ (x : ℕ). x % n) (sym (rw (add-one i) (suc-mul i j)))
+pub place-once : (j n : ℕ) → j < n → j ≡ 1 * j % n
+place-once j n h = sym (ap (λ (x : ℕ). x % n) (one-mul j) ∙ mod-eq-of-lt h)
+
+-- m places on from the place of i
+pub place-next : (i m j n : ℕ) {k d r : ℕ} → k ≡ i * j % n → d ≡ m * j % n → r ≡ (k + d) % n → r ≡ (i + m) * j % n
+place-next i m j n e f g =
+    g ∙ ap₂ (λ (x y : ℕ). (x + y) % n) e f ∙ sym (add-mod (i * j) (m * j) n) ∙ ap (λ (x : ℕ). x % n) (sym (add-mul i m j))
 
 -- ---- the sum
--- residue i times the power at i × j, read from the table t
-abbrev pub readTerm : List ℕ → List ℕ → ℕ → ℕ → ℤ
-readTerm t r j i = pos (getD r i 0 * getD t (i * j % length t) 0)
+pub sum-next : (n : ℕ) (t r : List ℕ) (j i : ℕ) {i′ acc k : ℕ} → i′ ≡ i + 1 → k ≡ i * j % n → pos acc ≡ sum (readTerm n t r j) i
+    → pos (acc + productAt t r k i) ≡ sum (readTerm n t r j) i′
+sum-next n t r j i {acc = acc} h f e =
+    ap (λ (m : ℕ). pos (acc + productAt t r m i)) f
+    ∙ ap (λ (s : ℤ). s +ℤ readTerm n t r j i) e
+    ∙ ap (λ (m : ℕ). sum (readTerm n t r j) m) (sym (h ∙ add-one i))
 
-pub sum-next : (t r : List ℕ) (j i acc : ℕ) {k x w : ℕ} → pos acc ≡ sum (readTerm t r j) i → k ≡ i * j % length t → x ≡ getD r i 0 → w ≡ getD t k 0
-    → pos (acc + x * w) ≡ sum (readTerm t r j) (i + 1)
-sum-next t r j i acc e f u v =
-    ap₂ (λ (x w : ℕ). pos (acc + x * w)) u (v ∙ ap (λ (m : ℕ). getD t m 0) f)
-    ∙ ap (λ (s : ℤ). s +ℤ readTerm t r j i) e
-    ∙ ap (λ (m : ℕ). sum (readTerm t r j) m) (sym (add-one i))
+-- four products more, where j2 and j3 are two and three times j
+pub sum-four : (n : ℕ) (t r : List ℕ) (j i : ℕ) {acc k j2 j3 x : ℕ} → k ≡ i * j % n → j ≡ 1 * j % n → j2 ≡ 2 * j % n → j3 ≡ 3 * j % n
+    → x ≡ productAt t r k i + productAt t r ((k + j) % n) (i + 1) + productAt t r ((k + j2) % n) (i + 2) + productAt t r ((k + j3) % n) (i + 3)
+    → pos acc ≡ sum (readTerm n t r j) i → pos (acc + x) ≡ sum (readTerm n t r j) (i + 4)
+sum-four n t r j i {acc} {k} {j2} {j3} {x} f f1 f2 f3 g e =
+    let h : acc + x ≡ acc + productAt t r k i + productAt t r ((k + j) % n) (i + 1) + productAt t r ((k + j2) % n) (i + 2) + productAt t r ((k + j3) % n) (i + 3) = omega (arith, g) in
+    ap (λ (y : ℕ). pos y) h
+    ∙ sum-next n t r j (i + 3) {i′ = i + 4} (omega arith) (place-next i 3 j n f f3 refl)
+    (sum-next n t r j (i + 2) {i′ = i + 3} (omega arith) (place-next i 2 j n f f2 refl)
+    (sum-next n t r j (i + 1) {i′ = i + 2} (omega arith) (place-next i 1 j n f f1 refl) (sum-next n t r j i refl f e)))
 
 module _ {p : Params} {t : List ℕ} (r : List ℕ) (asked : Evaluable p t (map pos r)) where
   positive : 0 < p .q
   positive = omega (arith, asked .sound .modulus)
 
-  power-read : (m : ℕ) → 0 < p .n → Cong (p .q) (pos (getD t (m % length t) 0)) (pos (p .g ^ m))
+  power-read : (m : ℕ) → 0 < p .n → Cong (p .q) (pos (getD t (m % p .n) 0)) (pos (p .g ^ m))
   power-read m h =
-      eq-residue positive {a = pos (getD t (m % length t) 0)} {b = pos (p .g ^ m)}
-      (ap (λ (x : ℕ). x % p .q) (asked .table .powers .each (m % length t) (mod-lt m (omega (arith, asked .table .size))))
-      ∙ mod-mod (p .g ^ (m % length t)) (p .q)
-      ∙ pow-round (p .g) (p .q) (length t) (asked .table .powers .cyclic ∙ sym (mod-eq-of-lt (asked .sound .modulus))) m)
+      eq-residue positive {a = pos (getD t (m % p .n) 0)} {b = pos (p .g ^ m)}
+      (ap (λ (x : ℕ). x % p .q) (asked .table .powers .each (m % p .n) (omega (arith, asked .table .size, mod-lt m h)))
+      ∙ mod-mod (p .g ^ (m % p .n)) (p .q)
+      ∙ pow-round (p .g) (p .q) (p .n) (asked .sound .cyclic ∙ sym (mod-eq-of-lt (asked .sound .modulus))) m)
 
   -- the whole sum, reduced, is the evaluation
-  pub sum-read : (j i acc : ℕ) → i ≡ p .n → pos acc ≡ sum (readTerm t r j) i → acc % p .q ≡ evaluation p (map pos r) j
-  unfolding evaluation
+  pub sum-read : (j i acc : ℕ) → i ≡ p .n → pos acc ≡ sum (readTerm (p .n) t r j) i → acc % p .q ≡ evaluation p (map pos r) j
+  unfolding evaluation productAt
   sum-read j i acc e s =
       residue-eq positive {a = pos acc} {b = sum (term p (map pos r) j) (length (map pos r))}
-      (cong-trans (cong-eq (s ∙ ap (λ (m : ℕ). sum (readTerm t r j) m) (e ∙ sym (asked .size))))
-      (sum-cong (readTerm t r j) (term p (map pos r) j) (length (map pos r))
+      (cong-trans (cong-eq (s ∙ ap (λ (m : ℕ). sum (readTerm (p .n) t r j) m) (e ∙ sym (asked .size))))
+      (sum-cong (readTerm (p .n) t r j) (term p (map pos r) j) (length (map pos r))
       (λ i l. cong-mul (cong-eq (sym (List·getD-map pos r i 0))) (power-read (i * j) (omega (arith, asked .size))))))
 
 -- ---- residues in place of coefficients

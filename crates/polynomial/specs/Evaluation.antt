@@ -2,7 +2,7 @@
 -- Assumes nothing.
 use mathlib.Core.Path.{_≡_}
 use mathlib.Core.List.{List, map}
-use Prim.Native.Nat.{ℕ, _*_, _^_, _<_}
+use Prim.Native.Nat.{ℕ, _*_, _%_, _^_, _<_, _≤_}
 use lib.IntN.{ℤ, pos, _*ℤ_}
 use lib.ListN.{length, getD}
 use Rattle.algebra.specs.Integer.{residue, sum}
@@ -32,3 +32,27 @@ pub record Evaluable (p : Params) (powers : List ℕ) (f : List ℤ) : Type 0 wh
   pub fitting : Fitting p
   pub table : PowersOf p powers
   pub size : length f ≡ p .n
+
+-- ---- the evaluator's sum
+-- the residue at i times the power at k, read from the residues r and the table t
+unfoldable pub productAt : List ℕ → List ℕ → ℕ → ℕ → ℕ
+productAt t r k i = getD r i 0 * getD t k 0
+
+-- residue i times the power at i × j
+abbrev pub readTerm : ℕ → List ℕ → List ℕ → ℕ → ℕ → ℤ
+readTerm n t r j i = pos (productAt t r (i * j % n) i)
+
+-- n powers and n residues whose sum of products fits 64 bits
+pub record Readable (n : ℕ) (t r : List ℕ) : Type 0 where
+  pub powers-size : length t ≡ n
+  pub residues-size : length r ≡ n
+  pub few : n ≤ 1153
+  pub small : Below (2 ^ 20) r
+
+-- acc is the sum of the first i products, and k the place of the next power
+pub record Summed (n : ℕ) (t r : List ℕ) (j acc k i : ℕ) : Type 0 where
+  pub below : i ≤ n
+  pub inside : k < n
+  pub place : k ≡ i * j % n
+  pub room : acc ≤ i * 2 ^ 52
+  pub value : pos acc ≡ sum (readTerm n t r j) i

@@ -1,11 +1,11 @@
 // Evaluation at powers of g, modulo q. The powers come as a lent table, so any set's table serves.
 ghost use mathlib.Core.Path.{_≡_};
 ghost use mathlib.Core.List.{map};
-ghost use Prim.Native.Nat.{_+_, _<_, _≤_, _%_, _^_};
+ghost use Prim.Native.Nat.{_+_, _*_, _<_, _≤_, _%_, _^_};
 ghost use lib.IntN.{ℤ, pos};
 ghost use lib.ListN.{length, take};
 ghost use Rattle.algebra.specs.Integer.{residue};
-ghost use Rattle.polynomial.specs.Evaluation.{evaluation, evaluations, Below, Evaluable};
+ghost use Rattle.polynomial.specs.Evaluation.{evaluation, evaluations, Below, Evaluable, productAt, Readable, Summed};
 use parameters::Params;
 
 // The residue of a coefficient, in 0..q-1. The one function of the evaluator that meets a negative number.
@@ -37,7 +37,8 @@ fn residues_of(a: &[i16], q: u32) -> [u32; 1153]
 // k + j modulo n, for k and j below n: the next place in the table of powers. The loop that calls it has n - j ready.
 fn turned(k: usize, j: usize, n: usize) -> usize
     requires { ⌜ (k < n) × (j < n) × (n < 65536) ⌝ }
-    ensures { λ r. ⌜ r ≡ (k + j) % n ⌝ }
+    ensures value { λ r. ⌜ r ≡ (k + j) % n ⌝ }
+    ensures below { λ r. ⌜ r < n ⌝ }
 {
     let left = n - j;
     if k < left { k + j } else { k - left }
@@ -50,6 +51,72 @@ fn wide(x: u32) -> u64
     x as u64
 }
 
+// The residue at i times the power at k.
+fn product_at(powers: &[u32], residues: &[u32], k: usize, i: usize) -> u64
+    requires { ⌜ (k < length (now powers)) × (i < length (now residues)) × Below (2 ^ 20) (now residues) ⌝ }
+    ensures value { λ r. ⌜ r ≡ productAt (now (powers .entry)) (now (residues .entry)) k i ⌝ }
+    ensures small { λ r. ⌜ r < 2 ^ 52 ⌝ }
+{
+    wide(residues[i]) * wide(powers[k])
+}
+
+// Four products from i on. Their places are each one turn away from k, so none waits for another; j2 and j3 are two and three steps of j.
+fn four_products(
+    powers: &[u32],
+    residues: &[u32],
+    n: usize,
+    k: usize,
+    i: usize,
+    j: usize,
+    j2: usize,
+    j3: usize,
+) -> u64
+    requires { ⌜ Readable n (now powers) (now residues) ⌝ }
+    requires { ⌜ (k < n) × (i + 4 ≤ n) × (j < n) × (j2 < n) × (j3 < n) ⌝ }
+    ensures value { λ r. ⌜ r ≡ productAt (now (powers .entry)) (now (residues .entry)) k i + productAt (now (powers .entry)) (now (residues .entry)) ((k + j) % n) (i + 1) + productAt (now (powers .entry)) (now (residues .entry)) ((k + j2) % n) (i + 2) + productAt (now (powers .entry)) (now (residues .entry)) ((k + j3) % n) (i + 3) ⌝ }
+    ensures small { λ r. ⌜ r < 4 * 2 ^ 52 ⌝ }
+{
+    let k1 = turned(k, j, n);
+    let k2 = turned(k, j2, n);
+    let k3 = turned(k, j3, n);
+    let a = product_at(powers, residues, k, i);
+    let b = product_at(powers, residues, k1, i + 1);
+    let c = product_at(powers, residues, k2, i + 2);
+    let d = product_at(powers, residues, k3, i + 3);
+    a + b + c + d
+}
+
+// The sum of the first i products, and the place k in the table of the next one's power.
+struct Partial {
+    acc: u64,
+    k: usize,
+    i: usize,
+}
+
+// The sum of all products but the last three or fewer, four a turn.
+fn summed_by_four(powers: &[u32], residues: &[u32], j: usize, n: usize) -> Partial
+    requires { ⌜ Readable n (now powers) (now residues) ⌝ }
+    requires { ⌜ j < n ⌝ }
+    ensures { λ s. ⌜ Summed n (now (powers .entry)) (now (residues .entry)) j (s .acc) (s .k) (s .i) ⌝ }
+{
+    let j2 = turned(j, j, n);
+    let j3 = turned(j2, j, n);
+    let j4 = turned(j3, j, n);
+    let mut acc: u64 = 0;
+    let mut k: usize = 0;
+    let mut i: usize = 0;
+    while i + 4 <= n {
+        acc += four_products(powers, residues, n, k, i, j, j2, j3);
+        k = turned(k, j4, n);
+        i += 4;
+    }
+    Partial {
+        acc: acc,
+        k: k,
+        i: i,
+    }
+}
+
 // The evaluation at exponent j of a polynomial whose coefficients are residues already. The sum is reduced once, at the end.
 fn evaluation_of(p: Params, powers: &[u32], residues: &[u32], j: usize) -> u32
     requires { ⌜ Evaluable p (now powers) (map pos (now residues)) ⌝ }
@@ -59,11 +126,12 @@ fn evaluation_of(p: Params, powers: &[u32], residues: &[u32], j: usize) -> u32
 {
     let q = p.q;
     let n = p.n;
-    let mut acc: u64 = 0;
-    let mut k: usize = 0;
-    let mut i: usize = 0;
+    let s = summed_by_four(powers, residues, j, n);
+    let mut acc = s.acc;
+    let mut k = s.k;
+    let mut i = s.i;
     while i < n {
-        acc += wide(residues[i]) * wide(powers[k]);
+        acc += product_at(powers, residues, k, i);
         k = turned(k, j, n);
         i += 1;
     }

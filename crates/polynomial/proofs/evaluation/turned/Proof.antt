@@ -15,13 +15,13 @@ add-result : tie.Need-add-result
 add-result c = search needs
 
 returns : tie.Need-returns
-returns c = round-none _ (search needs)
+returns c = (round-none _ (search needs), omega arith)
 
 returns-2 : tie.Need-returns-2
 returns-2 c =
     let a = c .before .args in
     let e : a .k - (a .n - a .j) ≡ a .k + a .j - a .n = omega arith in
-    e ∙ round-once (a .k + a .j) (omega arith) (omega arith)
+    (e ∙ round-once (a .k + a .j) (omega arith) (omega arith), omega arith)
 
 pub turned-spec : {M : Type 1} → statement M
 turned-spec = tie.close (tie.spec sub-left add-result returns returns-2)

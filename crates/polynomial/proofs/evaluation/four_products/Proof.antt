@@ -1,0 +1,77 @@
+-- `four_products` meets its contract: each product is below 2 ^ 52, and its place is the one that `turned` gives.
+-- Assumes nothing.
+use mathlib.Core.Path.{ap, ap₂, _∙_}
+use Prim.Native.Nat.{ℕ, _+_}
+use borrow.Author.Needs.{needs}
+use Rattle.polynomial.specs.Evaluation.{productAt}
+use Rattle.polynomial.proofs.evaluation.four_products.Statement.{statement}
+use Rattle.polynomial.proofs.evaluation.four_products.Tie as tie
+
+turned-requires : tie.Need-turned-requires
+turned-requires c κs = search needs
+
+turned-requires-2 : tie.Need-turned-requires-2
+turned-requires-2 c κs = search needs
+
+turned-requires-3 : tie.Need-turned-requires-3
+turned-requires-3 c κs = search needs
+
+product-at-requires : tie.Need-product-at-requires
+product-at-requires c κs = search needs
+
+add-product-at : tie.Need-add-product-at
+add-product-at c = search needs
+
+product-at-requires-2 : tie.Need-product-at-requires-2
+product-at-requires-2 c κs = search needs
+
+add-product-at-2 : tie.Need-add-product-at-2
+add-product-at-2 c = search needs
+
+product-at-requires-3 : tie.Need-product-at-requires-3
+product-at-requires-3 c κs = search needs
+
+add-product-at-3 : tie.Need-add-product-at-3
+add-product-at-3 c = search needs
+
+product-at-requires-4 : tie.Need-product-at-requires-4
+product-at-requires-4 c κs = search needs
+
+add-result : tie.Need-add-result
+add-result c = search needs
+
+add-result-2 : tie.Need-add-result-2
+add-result-2 c = search needs
+
+add-result-3 : tie.Need-add-result-3
+add-result-3 c = search needs
+
+returns : tie.Need-returns
+returns c =
+    let s = c .before .before .before .before .before .before .before .before .before in
+    let read = productAt (s .args .powers .now) (s .args .residues .now) in
+    let i = s .args .i in
+    let first = c .before .before .before .product-at .ensures .0 in
+    let second = c .before .before .product-at2 .ensures .0 ∙ ap (λ (k : ℕ). read k (i + 1)) (c .before .before .before .before .before .before .turned .ensures .0) in
+    let third = c .before .product-at3 .ensures .0 ∙ ap (λ (k : ℕ). read k (i + 2)) (c .before .before .before .before .before .turned2 .ensures .0) in
+    let fourth = c .product-at4 .ensures .0 ∙ ap (λ (k : ℕ). read k (i + 3)) (c .before .before .before .before .turned3 .ensures .0) in
+    (ap₂ _+_ (ap₂ _+_ (ap₂ _+_ first second) third) fourth, search needs)
+
+pub four-products-spec : {M : Type 1} → statement M
+four-products-spec =
+    tie.close
+    (tie.spec
+    turned-requires
+    turned-requires-2
+    turned-requires-3
+    product-at-requires
+    add-product-at
+    product-at-requires-2
+    add-product-at-2
+    product-at-requires-3
+    add-product-at-3
+    product-at-requires-4
+    add-result
+    add-result-2
+    add-result-3
+    returns)

@@ -1,0 +1,55 @@
+-- `product_at` meets its contract: a residue is below 2 ^ 20 and a power is a word of 32 bits.
+-- Assumes nothing.
+use mathlib.Core.Path.{ap₂}
+use Prim.Native.Nat.{ℕ, _*_, _^_, _<_}
+use native.Mathlib.Omega.{arith}
+use borrow.Author.Needs.{needs}
+use Rattle.algebra.proofs.Remainder.{product-below}
+use Rattle.polynomial.specs.Evaluation.{productAt}
+use Rattle.polynomial.proofs.evaluation.product_at.Statement.{statement}
+use Rattle.polynomial.proofs.evaluation.product_at.Tie as tie
+
+mul-wide : tie.Need-mul-wide
+mul-wide c = search needs
+
+shared-slice-read-wide : tie.Need-shared-slice-read-wide
+shared-slice-read-wide c = search needs
+
+wide-requires : tie.Need-wide-requires
+wide-requires c κs = search needs
+
+mul-wide-2 : tie.Need-mul-wide-2
+mul-wide-2 c = search needs
+
+shared-slice-read-wide-2 : tie.Need-shared-slice-read-wide-2
+shared-slice-read-wide-2 c = search needs
+
+wide-requires-2 : tie.Need-wide-requires-2
+wide-requires-2 c κs = search needs
+
+product-small : (c : tie.After-wide2) → c .before .before .wide .result * c .wide2 .result < 2 ^ 52
+product-small c =
+    let s = c .before .before .before .before .before .before in
+    product-below {m = 2 ^ 20} {n = 2 ^ 32}
+    (omega (arith, c .before .before .wide .ensures .0, s .pre .2 (s .args .i) (s .pre .1)))
+    (c .wide2 .ensures .1)
+
+mul-result : tie.Need-mul-result
+mul-result c = record { fits = omega (arith, product-small c) }
+
+returns : tie.Need-returns
+unfolding productAt
+returns c = (ap₂ (λ (x w : ℕ). x * w) (c .before .before .wide .ensures .0) (c .wide2 .ensures .0), product-small c)
+
+pub product-at-spec : {M : Type 1} → statement M
+product-at-spec =
+    tie.close
+    (tie.spec
+    mul-wide
+    shared-slice-read-wide
+    wide-requires
+    mul-wide-2
+    shared-slice-read-wide-2
+    wide-requires-2
+    mul-result
+    returns)
