@@ -140,7 +140,7 @@ static int in_range(const struct plain_set *s, const int32_t *z)
 int plain_sign(const struct plain_set *s, const uint32_t *powers, const uint8_t *secret_key, const uint16_t *points, const int16_t *mask,
                const uint8_t *message, size_t size, uint8_t *signature)
 {
-    int16_t f[1153];
+    int16_t f[1153] = {0};
     int8_t c[1153];
     int32_t z[1153];
     uint32_t commitment[600];
