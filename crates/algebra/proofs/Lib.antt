@@ -8,3 +8,4 @@ pub mod Sum
 pub mod List
 pub mod Powers
 pub mod Signed
+pub mod Widening

@@ -6,3 +6,5 @@ pub mod Entries
 pub mod Inverse
 pub mod EntriesInverse
 pub mod OneEncoding
+pub mod Parts
+pub mod Buffer

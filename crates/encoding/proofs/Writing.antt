@@ -6,9 +6,12 @@ use Prim.Native.Nat.{ℕ, zero, suc, _+_, _*_, _/_, _%_, _≤_, _<_}
 use native.Mathlib.Nat.{mul-zero, mul-suc, mul-le-mul-left}
 use native.Mathlib.Numerals.{add-one}
 use native.Mathlib.Omega.{arith}
+use lib.Dec.{T, ltb, lt→ltb}
 use lib.ListN.{length, getD, take, drop, length-append}
 use lib.Seq.{sets, sets-eq, length-sets, take-suc, take-at, length-take-le, take-all}
-use Rattle.encoding.specs.Bytes.{bytesOf, joined, encoded}
+use Rattle.algebra.proofs.All.{all-append}
+use Rattle.algebra.proofs.Test.{and-intro}
+use Rattle.encoding.specs.Bytes.{bytesOf, joined, encoded, areBelow}
 
 pub length-bytes : (w v : ℕ) → length (bytesOf w v) ≡ w
 unfolding bytesOf
@@ -58,3 +61,19 @@ module _ (w : ℕ) (vs : List ℕ) where
   pub written-all : (out : List ℕ) (i : ℕ) → i ≡ length vs → Written out i → out ≡ encoded w vs
   written-all out i e (l, h) =
       sym (take-all (w * i) out (omega (arith, ap (λ (k : ℕ). w * k) e))) ∙ h ∙ ap (encoded w) (take-all i vs (omega arith))
+
+-- ---- what is written is bytes
+
+pub below-append : (xs ys : List ℕ) → T (areBelow 256 xs) → T (areBelow 256 ys) → T (areBelow 256 (xs ++ ys))
+below-append xs ys s t = rw (all-append (λ (x : ℕ). ltb x 256) xs ys) (and-intro (areBelow 256 xs) (areBelow 256 ys) s t)
+
+bytes-below : (w v : ℕ) → T (areBelow 256 (bytesOf w v))
+unfolding bytesOf
+bytes-below zero v = tt
+bytes-below (suc w) v =
+    below-append (bytesOf w (v / 256)) (v % 256 ∷ []) (bytes-below w (v / 256)) (and-intro (ltb (v % 256) 256) _ (lt→ltb (v % 256) 256 (omega arith)) tt)
+
+pub encoded-below : (w : ℕ) (vs : List ℕ) → T (areBelow 256 (encoded w vs))
+unfolding encoded
+encoded-below w [] = tt
+encoded-below w (v ∷ vs) = below-append (bytesOf w v) (encoded w vs) (bytes-below w v) (encoded-below w vs)

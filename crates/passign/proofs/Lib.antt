@@ -16,4 +16,3 @@ pub mod Encoded
 pub mod AcceptedSigning
 pub mod OtherMask
 pub mod OtherEntry
-pub mod Parts

@@ -10,7 +10,7 @@ ghost use Rattle.encoding.specs.Encoding.{secretKeySize, arePoints, keyOf};
 ghost use Rattle.passign.specs.Answer.{answerOf};
 ghost use Rattle.passign.specs.Keys.{publicKeyRefusalIn, publicKeyRefusal, publicKeyWritten};
 use crate::Answer;
-use crate::layout::put_public_key;
+use layout::put_public_key;
 use encoding::public_key::are_points;
 use encoding::secret_key::are_key_bytes;
 use encoding::secret_key::read_key;

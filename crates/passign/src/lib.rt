@@ -25,5 +25,4 @@ pub mod codec;
 pub mod drawing;
 pub mod evaluation;
 pub mod keys;
-mod layout;
 pub mod sign;

@@ -7,7 +7,6 @@ ghost use lib.ListN.{length};
 ghost use Rattle.challenge.specs.Draw.{drawChallenge};
 ghost use Rattle.parameters.specs.Sets.{setOf};
 ghost use Rattle.parameters.specs.Sound.{Fitting};
-ghost use Rattle.polynomial.specs.Polynomial.{within};
 ghost use Rattle.passign.specs.Answer.{setByte};
 ghost use Rattle.passign.specs.Sign.{signRefusalIn, signAnswerIn, signWrittenIn, signAnswer, signWritten};
 use crate::Signing;
@@ -17,7 +16,7 @@ use encoding::secret_key::are_key_bytes;
 use parameters::Params;
 use parameters::params_of;
 use parameters::powers_of;
-use polynomial::point::is_within;
+use signer::masks_within;
 use signer::sign_first;
 
 // Whether so many numbers are masks of n numbers each, at most eight.
@@ -26,19 +25,6 @@ fn are_masks(count: usize, n: usize) -> bool
     ensures { λ r. ⌜ r ≡ eqb (count % n) 0 && leb count (8 * n) ⌝ }
 {
     (count % n == 0) & (count <= 8 * n)
-}
-
-// Whether every number of the masks is in -k..k.
-fn masks_within(masks: &[i16], k: u32) -> bool
-    ensures { λ r. ⌜ r ≡ within k (now (masks .entry)) ⌝ }
-{
-    let mut all = true;
-    let mut i: usize = 0;
-    while i < masks.len() {
-        all = all & is_within(masks[i] as i32, k);
-        i += 1;
-    }
-    all
 }
 
 // The refusal for lengths, exponents, key and masks, or 0.

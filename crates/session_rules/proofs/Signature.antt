@@ -1,17 +1,17 @@
 -- An accepted signing: its mask is one that is offered, and its bytes are bytes and as many as the set says.
 -- Assumes nothing.
 use mathlib.Core.Path.{_≡_, ap, _∙_}
-use mathlib.Core.List.{List, [], _∷_, _++_, map}
-use Prim.Native.Nat.{ℕ, zero, suc, _/_, _%_, _<_}
+use mathlib.Core.List.{List, _++_, map}
+use Prim.Native.Nat.{ℕ, _<_}
 use native.Mathlib.Omega.{arith}
 use lib.Dec.{T, ltb, lt→ltb}
 use lib.IntN.{ℤ}
 use lib.ListN.{length}
-use Rattle.algebra.proofs.All.{all-append}
 use Rattle.algebra.proofs.Test.{and-intro}
 use Rattle.parameters.specs.Sets.{setOf}
 use Rattle.challenge.specs.Draw.{drawChallenge}
-use Rattle.encoding.specs.Bytes.{bytesOf, encoded, bits16, areBelow}
+use Rattle.encoding.specs.Bytes.{encoded, bits16, areBelow}
+use Rattle.encoding.proofs.Writing.{below-append, encoded-below}
 use Rattle.encoding.specs.Challenge.{entriesOf}
 use Rattle.encoding.specs.Encoding.{signatureSize, signatureBytes}
 use Rattle.scheme.specs.Scheme.{Signed, Signature}
@@ -25,20 +25,6 @@ use Rattle.passign.proofs.Masks.{offeredCount}
 use Rattle.passign.proofs.AcceptedSigning.{SignedAs, accepted-signing, signed-bytes, offered, writable}
 use Rattle.passign.proofs.FiveSets.{set-encodable}
 use Rattle.passign.proofs.Entry.{Known, sign-entry, written-entry}
-
-below-append : (xs ys : List ℕ) → T (areBelow 256 xs) → T (areBelow 256 ys) → T (areBelow 256 (xs ++ ys))
-below-append xs ys s t = rw (all-append (λ (x : ℕ). ltb x 256) xs ys) (and-intro (areBelow 256 xs) (areBelow 256 ys) s t)
-
-bytes-below : (w v : ℕ) → T (areBelow 256 (bytesOf w v))
-unfolding bytesOf
-bytes-below zero v = tt
-bytes-below (suc w) v =
-    below-append (bytesOf w (v / 256)) (v % 256 ∷ []) (bytes-below w (v / 256)) (and-intro (ltb (v % 256) 256) _ (lt→ltb (v % 256) 256 (omega arith)) tt)
-
-encoded-below : (w : ℕ) (vs : List ℕ) → T (areBelow 256 (encoded w vs))
-unfolding encoded
-encoded-below w [] = tt
-encoded-below w (v ∷ vs) = below-append (bytesOf w v) (encoded w vs) (bytes-below w v) (encoded-below w vs)
 
 signature-bytes-below : (set : ℕ) (s : Signature) → set < 256 → T (areBelow 256 (signatureOf set s))
 unfolding signatureOf signatureBytes

@@ -1,4 +1,3 @@
 pub mod EntryCount
-pub mod Buffer
 pub mod Answer
 pub mod Offers

@@ -6,6 +6,7 @@ ghost use Rattle.challenge.specs.Draw.{drawChallenge};
 ghost use Rattle.encoding.specs.Bytes.{encoded};
 ghost use Rattle.encoding.specs.Challenge.{entriesOf};
 ghost use Rattle.encoding.specs.Encoding.{signatureBytes};
+ghost use Rattle.polynomial.specs.Polynomial.{within};
 ghost use Rattle.scheme.specs.Scheme.{attempt, inRange};
 ghost use Rattle.signer.specs.Signer.{Signable, Answerable, Writable, signedBy, signedBytes, attemptBytes, passedOverIn, passes};
 use challenge::draw::challenge_of;
@@ -15,7 +16,21 @@ use encoding::signed_numbers::write_signed_words;
 use parameters::Params;
 use polynomial::evaluation::evaluate;
 use polynomial::point::in_range;
+use polynomial::point::is_within;
 use polynomial::point::point_of;
+
+// Whether every number of the masks is in -k..k.
+pub fn masks_within(masks: &[i16], k: u32) -> bool
+    ensures { λ r. ⌜ r ≡ within k (now (masks .entry)) ⌝ }
+{
+    let mut all = true;
+    let mut i: usize = 0;
+    while i < masks.len() {
+        all = all & is_within(masks[i] as i32, k);
+        i += 1;
+    }
+    all
+}
 
 // Writes a challenge's b entries as bytes.
 fn write_challenge(b: usize, c: &[i8], out: &mut [u8])

@@ -1,4 +1,3 @@
 pub mod Recovery
 pub mod Comparison
-pub mod Widening
 pub mod Verdict

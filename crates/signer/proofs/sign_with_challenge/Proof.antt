@@ -11,7 +11,7 @@ use borrow.Author.Needs.{needs}
 use Rattle.polynomial.specs.Polynomial.{point}
 use Rattle.scheme.specs.Scheme.{Signature}
 use Rattle.signer.specs.Signer.{signatureOf, passes, attemptBytes}
-use Rattle.signer.proofs.Buffer.{front-room, front-length}
+use Rattle.encoding.proofs.Buffer.{front-room, front-length}
 use Rattle.signer.proofs.Answer.{point-size, writable, in-range, out-of-range}
 use Rattle.signer.proofs.sign_with_challenge.Statement.{statement}
 use Rattle.signer.proofs.sign_with_challenge.Tie as tie

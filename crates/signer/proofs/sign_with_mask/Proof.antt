@@ -14,7 +14,7 @@ use Rattle.parameters.specs.declared.Params.{Params}
 use Rattle.polynomial.specs.Evaluation.{evaluation, evaluations}
 use Rattle.scheme.specs.Scheme.{Signature}
 use Rattle.signer.specs.Signer.{Signable, passes, attemptBytes}
-use Rattle.signer.proofs.Buffer.{front-room, front-length}
+use Rattle.encoding.proofs.Buffer.{front-room, front-length}
 use Rattle.signer.proofs.Answer.{spent, drawn, drawn-sparse, drawn-room}
 use Rattle.signer.proofs.sign_with_mask.Statement.{statement}
 use Rattle.signer.proofs.sign_with_mask.Tie as tie

@@ -6,7 +6,7 @@ use lib.ListN.{length, drop, replicate}
 use lib.Seq.{length-take-le, take-at}
 use borrow.Author.Needs.{needs}
 use Rattle.encoding.specs.Bytes.{encoded}
-use Rattle.signer.proofs.Buffer.{front-room, front-length}
+use Rattle.encoding.proofs.Buffer.{front-room, front-length}
 use Rattle.signer.proofs.write_challenge.Statement.{statement}
 use Rattle.signer.proofs.write_challenge.Tie as tie
 

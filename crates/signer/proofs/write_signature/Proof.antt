@@ -12,7 +12,7 @@ use Rattle.encoding.specs.Challenge.{entriesOf}
 use Rattle.encoding.specs.Encoding.{signatureBytes}
 use Rattle.encoding.proofs.Writing.{length-encoded}
 use Rattle.signer.specs.Signer.{Writable}
-use Rattle.signer.proofs.Buffer.{end-length, whole}
+use Rattle.encoding.proofs.Buffer.{end-length, whole}
 use Rattle.signer.proofs.write_signature.Statement.{statement}
 use Rattle.signer.proofs.write_signature.Tie as tie
 

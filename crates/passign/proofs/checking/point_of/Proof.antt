@@ -10,7 +10,7 @@ use lib.Seq.{length-take-le, take-at}
 use borrow.Author.Needs.{needs}
 use Rattle.encoding.specs.Bytes.{numbers, signed16}
 use Rattle.encoding.specs.Encoding.{pointRead}
-use Rattle.passign.proofs.Parts.{rest}
+use Rattle.encoding.proofs.Parts.{rest}
 use Rattle.passign.proofs.checking.point_of.Statement.{statement}
 use Rattle.passign.proofs.checking.point_of.Tie as tie
 

@@ -12,7 +12,7 @@ use Rattle.encoding.specs.Encoding.{publicKeySize, pointsOf, evaluationsOf}
 use Rattle.passign.specs.Answer.{setByte}
 use Rattle.passign.specs.Codec.{readPublicKeyRefusal, readPointsWritten, readEvaluationsWritten}
 use Rattle.passign.proofs.Answering.{refused, kept, passed-equal, in-set-of}
-use Rattle.passign.proofs.Parts.{rest, part-size, numbers-part}
+use Rattle.encoding.proofs.Parts.{rest, part-size, numbers-part}
 use Rattle.passign.proofs.codec.read_public_key.Statement.{statement}
 use Rattle.passign.proofs.codec.read_public_key.Tie as tie
 

@@ -13,7 +13,7 @@ use Rattle.encoding.specs.Encoding.{secretKeySize, isKeyByte, keyCoefficient, i
 use Rattle.passign.specs.Answer.{setByte}
 use Rattle.passign.specs.Codec.{readSecretKeyRefusal, readSecretKeyWritten}
 use Rattle.passign.proofs.Answering.{refused, kept, passed, passed-equal, in-set-of}
-use Rattle.passign.proofs.Parts.{rest}
+use Rattle.encoding.proofs.Parts.{rest}
 use Rattle.passign.proofs.codec.read_secret_key.Statement.{statement}
 use Rattle.passign.proofs.codec.read_secret_key.Tie as tie
 

@@ -8,7 +8,7 @@ use borrow.Author.Needs.{needs}
 use borrow.Author.Tests.{lt-ltb, le-ltb, eq-eqb, ne-eqb}
 use Rattle.algebra.specs.All.{all}
 use Rattle.encoding.specs.Encoding.{isKeyByte, isKey}
-use Rattle.passign.proofs.Parts.{rest}
+use Rattle.encoding.proofs.Parts.{rest}
 use Rattle.passign.specs.Codec.{readSecretKeyRefusal}
 use Rattle.parameters.proofs.Lookup.{lookup-fitting}
 use Rattle.passign.proofs.codec.read_secret_key_refusal.Statement.{statement}

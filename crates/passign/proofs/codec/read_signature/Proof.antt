@@ -12,7 +12,7 @@ use Rattle.encoding.specs.Encoding.{signatureSize, entriesRead, pointRead}
 use Rattle.passign.specs.Answer.{setByte}
 use Rattle.passign.specs.Codec.{readSignatureRefusal, readEntriesWritten, readPointWritten}
 use Rattle.passign.proofs.Answering.{refused, kept, passed-equal, in-set-of}
-use Rattle.passign.proofs.Parts.{rest, part-size, numbers-part}
+use Rattle.encoding.proofs.Parts.{rest, part-size, numbers-part}
 use Rattle.passign.proofs.codec.read_signature.Statement.{statement}
 use Rattle.passign.proofs.codec.read_signature.Tie as tie
 

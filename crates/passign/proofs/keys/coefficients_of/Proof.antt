@@ -9,7 +9,7 @@ use lib.ListN.{length, take, drop, replicate, length-drop, length-map}
 use lib.Seq.{length-take-le, take-at}
 use borrow.Author.Needs.{needs}
 use Rattle.encoding.specs.Encoding.{keyCoefficient, keyOf}
-use Rattle.passign.proofs.Parts.{rest}
+use Rattle.encoding.proofs.Parts.{rest}
 use Rattle.passign.proofs.keys.coefficients_of.Statement.{statement}
 use Rattle.passign.proofs.keys.coefficients_of.Tie as tie
 

@@ -6,7 +6,7 @@ use borrow.Author.Tests.{eq-eqb, ne-eqb, not-true, not-false}
 use Rattle.algebra.specs.All.{all}
 use Rattle.encoding.specs.Encoding.{isKeyByte, isKey}
 use Rattle.passign.specs.Keys.{publicKeyRefusalIn}
-use Rattle.passign.proofs.Parts.{rest}
+use Rattle.encoding.proofs.Parts.{rest}
 use Rattle.passign.proofs.keys.refusal_in.Statement.{statement}
 use Rattle.passign.proofs.keys.refusal_in.Tie as tie
 

@@ -10,7 +10,7 @@ use Rattle.algebra.specs.Choice.{pick}
 use Rattle.polynomial.specs.Polynomial.{within}
 use Rattle.encoding.specs.Encoding.{arePoints, isKeyByte, isKey}
 use Rattle.passign.specs.Sign.{areMasks, signRefusalIn}
-use Rattle.passign.proofs.Parts.{rest}
+use Rattle.encoding.proofs.Parts.{rest}
 use Rattle.passign.proofs.sign.refusal_in.Statement.{statement}
 use Rattle.passign.proofs.sign.refusal_in.Tie as tie
 

@@ -1,0 +1,35 @@
+-- `has_entries` meets its contract: the test of what is read.
+-- Assumes nothing.
+use mathlib.Core.Path.{sym, ap, _∙_}
+use lib.Seq.{length-take-le}
+use borrow.Author.Needs.{needs}
+use Rattle.encoding.specs.Challenge.{areEntries}
+use Rattle.encoding.specs.Encoding.{entriesRead}
+use Rattle.layout.proofs.has_entries.Statement.{statement}
+use Rattle.layout.proofs.has_entries.Tie as tie
+
+words-of-requires : tie.Need-words-of-requires
+words-of-requires c κs = search needs
+
+array-share-prefix-entries : tie.Need-array-share-prefix-entries
+array-share-prefix-entries c = search needs
+
+slice-aggregate-are-entries-of : tie.Need-slice-aggregate-are-entries-of
+slice-aggregate-are-entries-of c = sym (length-take-le _ (c .before .words-of .result) (array-share-prefix-entries (c .before)))
+
+are-entries-of-requires : tie.Need-are-entries-of-requires
+are-entries-of-requires c κs = search needs
+
+returns : tie.Need-returns
+unfolding entriesRead
+returns c = c .are-entries-of .ensures ∙ ap (areEntries (c .before .before .before .before .args .p .n)) (c .before .before .words-of .ensures)
+
+pub has-entries-spec : {M : Type 1} → statement M
+has-entries-spec =
+    tie.close
+    (tie.spec
+    words-of-requires
+    array-share-prefix-entries
+    slice-aggregate-are-entries-of
+    are-entries-of-requires
+    returns)

@@ -1,0 +1,65 @@
+-- `put_hex` writes one byte a turn.
+-- Assumes nothing.
+use mathlib.Core.Path.{_≡_, refl}
+use Prim.Native.Nat.{_+_, _-_, _*_, _≤_}
+use native.Mathlib.Omega.{arith}
+use borrow.Author.Needs.{needs}
+use lib.ListN.{length, take}
+use lib.Seq.{take-all}
+use Rattle.session_rules.specs.Rows.{hex}
+use Rattle.session_rows.specs.Rows.{Wrote}
+use Rattle.session_rows.proofs.RowText.{wrote-none, wrote-more, hex-append}
+use Rattle.session_rows.proofs.put_hex.Statement.{statement}
+use Rattle.session_rows.proofs.put_hex.Tie as tie
+
+abbrev Inv-loop : tie.InvT-loop
+Inv-loop rows₀ at bytes next₀ i₀ rows next i = (i ≤ length bytes) × (next ≤ at + 2 * i) × (length rows ≡ length rows₀) × Wrote rows₀ at (hex (take i bytes)) rows next
+
+abbrev μ-loop : tie.MeasureT-loop
+μ-loop rows₀ at bytes next₀ i₀ rows next i = length bytes - i
+
+loop-holds : tie.Need-loop-holds Inv-loop μ-loop
+unfolding hex
+loop-holds c = (omega arith, omega arith, refl, wrote-none _ _)
+
+shared-slice-read-put-hex-byte : tie.Need-shared-slice-read-put-hex-byte Inv-loop μ-loop
+shared-slice-read-put-hex-byte c = search needs
+
+put-hex-byte-requires : tie.Need-put-hex-byte-requires Inv-loop μ-loop
+put-hex-byte-requires c κs = search needs
+
+add-i : tie.Need-add-i Inv-loop μ-loop
+add-i c = search needs
+
+loop-less : tie.Need-loop-less Inv-loop μ-loop
+loop-less c = search needs
+
+loop-again : tie.Need-loop-again Inv-loop μ-loop
+loop-again c =
+    let turn = c .before .before .before .before .before .before in
+    let xs = turn .before .before .before .args .bytes .now in
+    (omega arith, omega arith, search needs, wrote-more hex hex-append xs (turn .loop .i) (omega arith) (turn .loop .inv .3) (c .before .before .put-hex-byte .ensures .0))
+
+same-length : tie.Need-same-length Inv-loop μ-loop
+same-length c = search needs
+
+returns : tie.Need-returns Inv-loop μ-loop
+returns c =
+    let l = c .before .loop in
+    let whole = take-all (l .i) (c .before .before .before .before .args .bytes .now) (omega arith) in
+    (rw whole at (l .inv .3), omega arith)
+
+pub put-hex-spec : {M : Type 1} → statement M
+put-hex-spec =
+    tie.close
+    (tie.spec
+    Inv-loop
+    μ-loop
+    loop-holds
+    shared-slice-read-put-hex-byte
+    put-hex-byte-requires
+    add-i
+    loop-less
+    loop-again
+    same-length
+    returns)

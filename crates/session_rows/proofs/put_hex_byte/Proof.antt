@@ -1,0 +1,44 @@
+-- `put_hex_byte` writes the high digit and then the low one.
+-- Assumes nothing.
+use native.Mathlib.Omega.{arith}
+use borrow.Author.Needs.{needs}
+use Rattle.session_rules.specs.Rows.{hex}
+use Rattle.session_rows.proofs.RowText.{wrote-then}
+use Rattle.session_rows.proofs.put_hex_byte.Statement.{statement}
+use Rattle.session_rows.proofs.put_hex_byte.Tie as tie
+
+hex-digit-requires : tie.Need-hex-digit-requires
+hex-digit-requires c κs = search needs
+
+hex-digit-requires-2 : tie.Need-hex-digit-requires-2
+hex-digit-requires-2 c κs = search needs
+
+put-requires : tie.Need-put-requires
+put-requires c κs = search needs
+
+put-requires-2 : tie.Need-put-requires-2
+put-requires-2 c κs = search needs
+
+same-length : tie.Need-same-length
+same-length c = search needs
+
+returns : tie.Need-returns
+unfolding hex
+returns c =
+    let low = c .before .before in
+    let high = low .before .before .before .before in
+    let values = high .before .before in (
+      rw (← values .before .hex-digit .ensures, ← values .hex-digit2 .ensures) (wrote-then (high .put .ensures) (low .put2 .ensures)),
+      omega arith,
+    )
+
+pub put-hex-byte-spec : {M : Type 1} → statement M
+put-hex-byte-spec =
+    tie.close
+    (tie.spec
+    hex-digit-requires
+    hex-digit-requires-2
+    put-requires
+    put-requires-2
+    same-length
+    returns)

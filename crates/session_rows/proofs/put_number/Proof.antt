@@ -1,0 +1,25 @@
+-- `put_number` writes a space and the digits.
+-- Assumes nothing.
+use native.Mathlib.Omega.{arith}
+use borrow.Author.Needs.{needs}
+use Rattle.session_rows.proofs.RowText.{wrote-then}
+use Rattle.session_rows.proofs.put_number.Statement.{statement}
+use Rattle.session_rows.proofs.put_number.Tie as tie
+
+put-requires : tie.Need-put-requires
+put-requires c κs = search needs
+
+put-digits-requires : tie.Need-put-digits-requires
+put-digits-requires c κs = search needs
+
+same-length : tie.Need-same-length
+same-length c = search needs
+
+returns : tie.Need-returns
+returns c =
+    let number = c .before .before in
+    let space = number .before .before .before .before in
+    (wrote-then (space .put .ensures) (number .put-digits .ensures .0), omega arith)
+
+pub put-number-spec : {M : Type 1} → statement M
+put-number-spec = tie.close (tie.spec put-requires put-digits-requires same-length returns)

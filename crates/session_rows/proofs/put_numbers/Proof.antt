@@ -1,0 +1,69 @@
+-- `put_numbers` writes one number a turn.
+-- Assumes nothing.
+use mathlib.Core.Path.{_≡_, refl}
+use Prim.Native.Nat.{_+_, _-_, _*_, _≤_}
+use native.Mathlib.Omega.{arith}
+use borrow.Author.Needs.{needs}
+use lib.ListN.{length, take}
+use lib.Seq.{take-all}
+use Rattle.session_rules.specs.Rows.{spacedNumbers}
+use Rattle.session_rows.specs.Rows.{Wrote}
+use Rattle.session_rows.proofs.RowText.{wrote-none, wrote-more, numbers-append, one-number}
+use Rattle.session_rows.proofs.put_numbers.Statement.{statement}
+use Rattle.session_rows.proofs.put_numbers.Tie as tie
+
+abbrev Inv-loop : tie.InvT-loop
+Inv-loop rows₀ at numbers next₀ i₀ rows next i = (i ≤ length numbers) × (next ≤ at + 11 * i) × (length rows ≡ length rows₀) × Wrote rows₀ at (spacedNumbers (take i numbers)) rows next
+
+abbrev μ-loop : tie.MeasureT-loop
+μ-loop rows₀ at numbers next₀ i₀ rows next i = length numbers - i
+
+loop-holds : tie.Need-loop-holds Inv-loop μ-loop
+unfolding spacedNumbers
+loop-holds c = (omega arith, omega arith, refl, wrote-none _ _)
+
+mul-put-number : tie.Need-mul-put-number Inv-loop μ-loop
+mul-put-number c = search needs
+
+shared-slice-read-put-number : tie.Need-shared-slice-read-put-number Inv-loop μ-loop
+shared-slice-read-put-number c = search needs
+
+put-number-requires : tie.Need-put-number-requires Inv-loop μ-loop
+put-number-requires c κs = search needs
+
+add-i : tie.Need-add-i Inv-loop μ-loop
+add-i c = search needs
+
+loop-less : tie.Need-loop-less Inv-loop μ-loop
+loop-less c = search needs
+
+loop-again : tie.Need-loop-again Inv-loop μ-loop
+loop-again c =
+    let turn = c .before .before .before .before .before .before in
+    let xs = turn .before .before .before .args .numbers .now in
+    (omega arith, omega arith, search needs, wrote-more spacedNumbers numbers-append xs (turn .loop .i) (omega arith) (turn .loop .inv .3) (rw one-number (c .before .before .put-number .ensures .0)))
+
+same-length : tie.Need-same-length Inv-loop μ-loop
+same-length c = search needs
+
+returns : tie.Need-returns Inv-loop μ-loop
+returns c =
+    let l = c .before .loop in
+    let whole = take-all (l .i) (c .before .before .before .before .args .numbers .now) (omega arith) in
+    (rw whole at (l .inv .3), omega arith)
+
+pub put-numbers-spec : {M : Type 1} → statement M
+put-numbers-spec =
+    tie.close
+    (tie.spec
+    Inv-loop
+    μ-loop
+    loop-holds
+    mul-put-number
+    shared-slice-read-put-number
+    put-number-requires
+    add-i
+    loop-less
+    loop-again
+    same-length
+    returns)
