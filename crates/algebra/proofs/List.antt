@@ -1,11 +1,11 @@
 -- Lists as loops fill them, from the front, one store a turn. Over any element.
 -- Assumes nothing.
-use mathlib.Core.Path.{_≡_, sym, ap, _∙_}
+use mathlib.Core.Path.{_≡_, refl, sym, ap, _∙_}
 use mathlib.Core.List.{List, [], _∷_, _++_, map, map-append}
-use Prim.Native.Nat.{ℕ, _+_, _-_, _≤_, _<_}
+use Prim.Native.Nat.{ℕ, zero, suc, _+_, _-_, _≤_, _<_}
 use native.Mathlib.Numerals.{add-one}
 use native.Mathlib.Omega.{arith}
-use lib.ListN.{length, getD, take, set}
+use lib.ListN.{length, getD, take, set, replicate}
 use lib.Seq.{take-suc, take-suc-set, take-all, getD-append-add}
 
 module _ {ℓ} {A : Type ℓ} where
@@ -42,3 +42,9 @@ module _ {A B : Type 0} (f : A → B) (js : List A) where
 
   pub mapped-all : (out : List B) (i : ℕ) → length out ≤ i → length js ≤ i → Mapped out i → out ≡ map f js
   mapped-all out i h l e = sym (take-all i out h) ∙ e ∙ ap (λ (s : List A). map f s) (take-all i js l)
+
+-- the front of a list of one element many times
+pub take-replicate : {A : Type 0} (n m : ℕ) (a : A) → n ≤ m → take n (replicate m a) ≡ replicate n a
+take-replicate zero m a h = refl
+take-replicate (suc n) zero a h = absurd (omega arith)
+take-replicate {A} (suc n) (suc m) a h = ap (λ (l : List A). a ∷ l) (take-replicate n m a (omega arith))

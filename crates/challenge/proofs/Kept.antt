@@ -18,6 +18,7 @@ use mir.Syntax.{w8}
 use mir.Val.{toZ, ofZ}
 use mir.Facts.{toZ-ofZ}
 use Rattle.algebra.specs.Choice.{pick}
+use Rattle.algebra.proofs.List.{take-replicate}
 use Rattle.algebra.proofs.Test.{pick-by, by-test}
 use Rattle.algebra.proofs.Signed.{fits-signed}
 use Rattle.parameters.specs.declared.Params.{Params}
@@ -97,11 +98,6 @@ pub placed-more : (p : Params) (bytes : List ℕ) (j : ℕ) (js : List ℕ)
     → placed p bytes (js ++ (j ∷ [])) ≡ set (placed p bytes js) j (signAt bytes (length js))
 unfolding placed
 placed-more p bytes j js = signed-more bytes 0 j js (replicate (p .n) (pos 0)) ∙ rw zero-add
-
-take-replicate : {A : Type 0} (n m : ℕ) (a : A) → n ≤ m → take n (replicate m a) ≡ replicate n a
-take-replicate zero m a h = refl
-take-replicate (suc n) zero a h = absurd (omega arith)
-take-replicate {A} (suc n) (suc m) a h = ap (λ (l : List A). a ∷ l) (take-replicate n m a (omega arith))
 
 -- the bound of the values that are not skipped fits a word, and each index has a place
 

@@ -1,32 +1,21 @@
 -- Masks that lie one after the other: each by its number, how long and how large it is, and one offered alone.
 -- Assumes nothing.
-use mathlib.Core.Path.{_≡_, refl, sym, ap, _∙_}
+use mathlib.Core.Path.{_≡_, ap, _∙_}
 use mathlib.Core.List.{List, [], _∷_}
-use Prim.Native.Nat.{ℕ, zero, suc, _*_, _/_, _<_}
-use native.Mathlib.Nat.{le-of-suc-le-suc, not-suc-le-zero, zero-mul, suc-mul, add-comm, mul-le-mul-right, div-mul-le-self, div-self, le-of-eq}
+use Prim.Native.Nat.{ℕ, _*_, _/_, _<_}
+use native.Mathlib.Nat.{suc-mul, mul-le-mul-right, div-mul-le-self, div-self, le-of-eq}
 use native.Mathlib.Omega.{arith}
 use lib.Dec.{T}
 use lib.IntN.{ℤ}
 use lib.ListN.{length, getD, take, drop, length-drop}
-use lib.Seq.{drop-drop, length-take-le, take-all}
+use lib.Seq.{length-take-le, take-all}
 use Rattle.parameters.specs.declared.Params.{Params}
 use Rattle.polynomial.specs.Polynomial.{within}
 use Rattle.polynomial.proofs.Bound.{within-take, within-drop}
 use Rattle.encoding.specs.Bytes.{parts}
+use Rattle.encoding.proofs.Parts.{length-parts, parts-at}
 use Rattle.signer.specs.Signer.{masksOf}
 use Rattle.passign.specs.Hiding.{maskAt}
-
-module _ {A : Type 0} (size : ℕ) where
-  length-parts : (count : ℕ) (l : List A) → length (parts size count l) ≡ count
-  length-parts zero l = refl
-  length-parts (suc count) l = ap suc (length-parts count (drop size l))
-
-  parts-at : (count : ℕ) (l : List A) (i : ℕ) → i < count → getD (parts size count l) i [] ≡ take size (drop (i * size) l)
-  parts-at zero l i h = absurd (not-suc-le-zero h)
-  parts-at (suc count) l zero h = ap (λ (m : ℕ). take size (drop m l)) (sym (zero-mul size))
-  parts-at (suc count) l (suc i) h =
-      parts-at count (drop size l) i (le-of-suc-le-suc h)
-      ∙ ap (take size) (drop-drop (i * size) size l ∙ ap (λ (m : ℕ). drop m l) (add-comm size (i * size) ∙ sym (suc-mul i size)))
 
 module _ (p : Params) (masks : List ℤ) where
   -- how many masks are offered

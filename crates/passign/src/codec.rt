@@ -4,6 +4,13 @@ ghost use lib.ListN.{length};
 ghost use Rattle.passign.specs.Answer.{answerOf};
 ghost use Rattle.passign.specs.Codec.{readSecretKeyRefusal, readSecretKeyWritten, writeSecretKeyRefusal, writeSecretKeyWritten, readPublicKeyRefusal, readPointsWritten, readEvaluationsWritten, writePublicKeyRefusal, writePublicKeyWritten, readSignatureRefusal, readEntriesWritten, readPointWritten, writeSignatureRefusal, writeSignatureWritten};
 use crate::Answer;
+use encoding::challenge_entries::are_entries_of;
+use encoding::numbers::read_triples;
+use encoding::numbers::read_words;
+use encoding::public_key::are_below;
+use encoding::public_key::are_points;
+use encoding::secret_key::are_key_bytes;
+use encoding::signed_numbers::read_signed_words;
 use layout::has_entries;
 use layout::has_evaluations;
 use layout::has_points;
@@ -12,13 +19,6 @@ use layout::put_public_key;
 use layout::put_secret_key;
 use layout::put_signature;
 use layout::read_coefficients;
-use encoding::challenge_entries::are_entries_of;
-use encoding::numbers::read_triples;
-use encoding::numbers::read_words;
-use encoding::public_key::are_below;
-use encoding::public_key::are_points;
-use encoding::secret_key::are_key_bytes;
-use encoding::signed_numbers::read_signed_words;
 use parameters::params_of;
 
 // The refusal of reading a secret key, or 0.

@@ -4,7 +4,7 @@ ghost use mathlib.Core.List.{[], _∷_};
 ghost use Prim.Native.Nat.{_+_, _*_, _<_, _≤_};
 ghost use lib.ListN.{length};
 ghost use Rattle.session_rules.specs.Commands.{nothing, values, signed, judged};
-ghost use Rattle.session_rules.specs.Rows.{digits, decimal, hexDigit, hex, spaced, spacedNumbers, rowText, atFront};
+ghost use Rattle.session_rules.specs.Rows.{digits, decimal, hexDigit, hex, spaced, spacedNumbers, rowText, atFront, rowSize};
 ghost use Rattle.session_rows.specs.Rows.{rowHead, Wrote};
 
 const SPACE: u8 = 32;
@@ -145,4 +145,19 @@ pub fn write_judged(rows: &mut [u8], ordinal: u32, byte: u8, verdict: u8)
     let mut next = put_head(rows, ordinal, byte, 0);
     next = put_number(rows, next, verdict as u32);
     put(rows, next, LINE_FEED);
+}
+
+// The size of the row at the front of a buffer: up to and with its line feed.
+pub fn row_size(rows: &[u8]) -> usize
+    ensures value { λ r. ⌜ r ≡ rowSize (now (rows .entry)) ⌝ }
+    ensures within { λ r. ⌜ r ≤ length (now (rows .entry)) ⌝ }
+{
+    let mut i: usize = 0;
+    while i < rows.len() {
+        if rows[i] == LINE_FEED {
+            return i + 1;
+        }
+        i += 1;
+    }
+    i
 }

@@ -17,3 +17,4 @@ pub mod Signings
 pub mod Calls
 pub mod Counting
 pub mod Ordinals
+pub mod RowSize

@@ -6,15 +6,15 @@ use mathlib.Core.List.{List, [], _∷_, _++_, append-assoc}
 use Prim.Native.Nat.{ℕ, zero, suc, _+_, _*_, _/_, _%_, _≤_, _<_}
 use native.Mathlib.Nat.{div-add-mod'}
 use native.Mathlib.Omega.{arith}
-use lib.Dec.{T, ltb, ltb→lt}
+use lib.Dec.{T, ltb, ltb→lt, lt→ltb}
 use lib.ListN.{length, drop, length-append}
 use borrow.Author.Tests.{ltb-true, ltb-false, lt-ltb, le-ltb, ne-eqb}
 use Rattle.algebra.specs.All.{all}
 use Rattle.algebra.proofs.All.{all-append}
 use Rattle.algebra.proofs.Test.{and-left, and-right, and-intro, true-holds, pick-by, by-test}
 use Rattle.encoding.specs.Bytes.{areBelow}
-use Rattle.session_rules.specs.Commands.{signed}
-use Rattle.session_rules.specs.Rows.{digits, decimal, hexDigit, hex, spaced, spacedNumbers, rowText, atFront}
+use Rattle.session_rules.specs.Commands.{Payload, nothing, values, signed, judged}
+use Rattle.session_rules.specs.Rows.{digits, decimal, hexDigit, hex, spaced, spacedNumbers, payloadText, rowText, atFront, rowSize}
 use Rattle.session_rules.specs.Plays.{afterSpace, hexValue, unhex, printedSignature}
 
 -- ---- lengths
@@ -42,10 +42,10 @@ length-numbers (v ∷ vs) = omega (arith, length-append (spaced (decimal v)) (sp
 -- ---- fields are parted by a space
 
 -- x is no space and no line feed
-abbrev isVisible : ℕ → Bool
+abbrev pub isVisible : ℕ → Bool
 isVisible x = ltb 32 x
 
-visible-digits : (more n : ℕ) → T (all isVisible (digits more n))
+pub visible-digits : (more n : ℕ) → T (all isVisible (digits more n))
 unfolding digits
 visible-digits zero n = and-intro (ltb 32 (48 + n % 10)) true (true-holds (lt-ltb 32 (48 + n % 10) (omega arith))) tt
 visible-digits (suc more) n =
@@ -57,7 +57,7 @@ visible-digits (suc more) n =
 visible-digit : (n : ℕ) → 32 < hexDigit n
 visible-digit n = pick-by (λ (x : ℕ). 32 < x) (ltb n 10) (λ t. omega arith) (λ t. omega arith)
 
-visible-hex : (xs : List ℕ) → T (all isVisible (hex xs))
+pub visible-hex : (xs : List ℕ) → T (all isVisible (hex xs))
 unfolding hex
 visible-hex [] = tt
 visible-hex (x ∷ xs) =
@@ -69,6 +69,48 @@ after-field [] rest t = refl
 after-field (x ∷ field) rest t =
     let h = ltb→lt 32 x (and-left (isVisible x) (all isVisible field) t) in
     rw (ne-eqb x 32 (λ e. omega arith)) (after-field field rest (and-right (isVisible x) (all isVisible field) t))
+
+-- ---- a row ends at its line feed
+
+-- x is no line feed
+abbrev isInside : ℕ → Bool
+isInside x = ltb 10 x
+
+pub inside : (l : List ℕ) → T (all isVisible l) → T (all isInside l)
+inside [] t = tt
+inside (x ∷ l) t =
+    let h = ltb→lt 32 x (and-left (isVisible x) (all isVisible l) t) in
+    and-intro (isInside x) (all isInside l) (lt→ltb 10 x (omega arith)) (inside l (and-right (isVisible x) (all isVisible l) t))
+
+inside-append : (l m : List ℕ) → T (all isInside l) → T (all isInside m) → T (all isInside (l ++ m))
+inside-append l m s t = rw (all-append isInside l m) (and-intro (all isInside l) (all isInside m) s t)
+
+inside-numbers : (vs : List ℕ) → T (all isInside (spacedNumbers vs))
+unfolding spacedNumbers
+inside-numbers [] = tt
+inside-numbers (v ∷ vs) = inside-append (spaced (decimal v)) (spacedNumbers vs) (inside (decimal v) (visible-digits 9 v)) (inside-numbers vs)
+
+pub inside-payload : (x : Payload) → T (all isInside (payloadText x))
+inside-payload nothing = tt
+inside-payload (values vs) = inside-numbers vs
+inside-payload (signed i bytes) =
+    inside-append (spaced (decimal i)) (spaced (hex bytes)) (inside (decimal i) (visible-digits 9 i)) (inside (hex bytes) (visible-hex bytes))
+inside-payload (judged v) = inside (decimal v) (visible-digits 9 v)
+
+-- l is a row's text from some place on: its first line feed is its last character
+abbrev pub Ends : List ℕ → Type 0
+Ends l = (rest : List ℕ) → rowSize (l ++ rest) ≡ length l
+
+pub ends-more : (l m : List ℕ) → T (all isInside l) → Ends m → Ends (l ++ m)
+unfolding rowSize
+ends-more [] m t e rest = e rest
+ends-more (x ∷ l) m t e rest =
+    let h = ltb→lt 10 x (and-left (isInside x) (all isInside l) t) in
+    rw (ne-eqb x 10 (λ i. omega arith)) (ap suc (ends-more l m (and-right (isInside x) (all isInside l) t) e rest))
+
+pub ends-feed : Ends (10 ∷ [])
+unfolding rowSize
+ends-feed rest = refl
 
 -- ---- hex digits
 

@@ -2,7 +2,7 @@
 -- Assumes nothing.
 use mathlib.Core.List.{List, [], _∷_, _++_}
 use Prim.Native.Nat.{ℕ, zero, suc, _+_, _/_, _%_}
-use lib.Dec.{ltb}
+use lib.Dec.{ltb, eqb}
 use lib.ListN.{length, drop}
 use Rattle.algebra.specs.Choice.{pick}
 use Rattle.session_rules.specs.Commands.{Payload, nothing, values, signed, judged}
@@ -47,3 +47,8 @@ rowText ordinal byte number x =
 -- a row at the front of a buffer, whose bytes behind it are left
 abbrev pub atFront : List ℕ → List ℕ → List ℕ
 atFront row buffer = row ++ drop (length row) buffer
+
+-- the size of the row at the front of a buffer: up to and with the first line feed, all where there is none
+unfoldable pub rowSize : List ℕ → ℕ
+rowSize [] = 0
+rowSize (x ∷ xs) = pick (eqb x 10) 1 (suc (rowSize xs))

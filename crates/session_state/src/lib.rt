@@ -7,7 +7,7 @@ ghost use Rattle.session_state.specs.State.{setHeld, hasPoints, heldOf};
 use encoding::public_key::are_points;
 use parameters::Params;
 
-//pub mod mask_list;
+pub mod mask_list;
 
 // The points, t of them in front.
 pub struct Points {

@@ -1,0 +1,86 @@
+-- `command_step` meets its contract: the refusal that is due, 00, or a command that goes on.
+-- Assumes nothing.
+use mathlib.Core.Path.{sym, _∙_}
+use native.Mathlib.Omega.{arith}
+use borrow.Author.Needs.{needs}
+use Rattle.session_state.proofs.State.{heldOf-set}
+use Rattle.session.specs.Session.{sessionOf}
+use Rattle.session.proofs.Due.{allowed, refuses, ends}
+use Rattle.session.proofs.step.command_step.Statement.{statement}
+use Rattle.session.proofs.step.command_step.Tie as tie
+
+byte-at-requires : tie.Need-byte-at-requires
+byte-at-requires c κs = search needs
+
+refusal-due-requires : tie.Need-refusal-due-requires
+refusal-due-requires c κs = search needs
+
+end-at-requires : tie.Need-end-at-requires
+end-at-requires c κs = search needs
+
+same-length : tie.Need-same-length
+same-length c = search needs
+
+returns : tie.Need-returns
+unfolding sessionOf
+returns c =
+    let d = c .before .before .before .before .before in
+    let a = d .before .before .before .before .args in
+    let due = d .refusal-due .ensures in
+    let chosen = heldOf-set (a .s .held) in
+    let refused = refuses (sessionOf (a .s)) (a .file .now) (a .at) (a .s .held .set) chosen (λ z. c .before .before .before .before .if1 .taken (due ∙ z)) in
+    rw (refused, ← due, ← d .before .byte-at .ensures) (c .before .before .end-at .ensures)
+
+add-next : tie.Need-add-next
+add-next c = omega (arith, allowed _ _ _ (sym (c .before .before .refusal-due .ensures) ∙ c .before .if1 .left) .inside)
+
+end-number-requires : tie.Need-end-number-requires
+end-number-requires c κs = search needs
+
+end-at-requires-2 : tie.Need-end-at-requires-2
+end-at-requires-2 c κs = search needs
+
+same-length-2 : tie.Need-same-length-2
+same-length-2 c = search needs
+
+returns-2 : tie.Need-returns-2
+unfolding sessionOf
+returns-2 c =
+    let e = c .before .before .before .before in
+    let d = e .before .before .before in
+    let a = d .before .before .before .before .args in
+    let due = sym (d .refusal-due .ensures) ∙ e .before .before .if1 .left in
+    let byte = sym (d .before .byte-at .ensures) ∙ e .before .if2 .taken in
+    let ended = ends (sessionOf (a .s)) (a .file .now) (a .at) (a .s .held .set) (heldOf-set (a .s .held)) due byte in
+    rw (ended, ← e .end-number .ensures) (c .before .before .end-at2 .ensures)
+
+go-on-requires : tie.Need-go-on-requires
+go-on-requires c κs =
+    let d = c .before .before .before in
+    let s = d .before .before .before .before in
+    let due = sym (d .refusal-due .ensures) ∙ c .before .before .if1 .left in
+    (s .pre .0, (s .pre .1, (due, omega (arith, d .before .byte-at .ensures, c .before .if2 .left))))
+
+same-length-3 : tie.Need-same-length-3
+same-length-3 c = search needs
+
+returns-3 : tie.Need-returns-3
+returns-3 c = c .before .before .go-on .ensures
+
+pub command-step-spec : {M : Type 1} → statement M
+command-step-spec =
+    tie.close
+    (tie.spec
+    byte-at-requires
+    refusal-due-requires
+    end-at-requires
+    same-length
+    returns
+    add-next
+    end-number-requires
+    end-at-requires-2
+    same-length-2
+    returns-2
+    go-on-requires
+    same-length-3
+    returns-3)

@@ -1,0 +1,44 @@
+-- What a session of the code means, and what a play of it gives, held against the definitions of crate session_rules.
+-- Assumes nothing.
+use mathlib.Core.Path.{_≡_}
+use mathlib.Core.Bool.{not, _&&_}
+use mathlib.Core.List.{List}
+use Prim.Native.Nat.{ℕ, _+_}
+use lib.Dec.{ltb, leb}
+use lib.ListN.{length, getD}
+use Rattle.algebra.specs.Choice.{pick}
+use Rattle.session_rules.specs.Commands.{isKnown, needsSet, operandSize}
+use Rattle.session_rules.specs.Play.{Session, Step, Answer, row, fault, over, Outcome, lacksSet, rowOf}
+use Rattle.session_rules.specs.Rows.{atFront}
+use Rattle.session_state.specs.State.{setHeld, heldOf}
+use Rattle.session.specs.declared.Session as code
+use Rattle.session.specs.declared.Answer as answer
+use Rattle.session.specs.declared.Answer.the-variants as answers
+use Rattle.session.specs.declared.Played.{Played}
+use Rattle.session.specs.declared.step.Taken.{Taken}
+
+unfoldable pub sessionOf : code.Session → Session
+sessionOf s = record { started = s .started; ended = s .ended; place = s .place; rows = s .rows; held = heldOf (s .held) }
+
+abbrev pub answerOf : answer.Answer → Answer
+answerOf (answers.Row n) = row n
+answerOf answers.Fault = fault
+answerOf answers.Ended = over
+
+-- all that a play gives: the session after it, the answer, and the row buffer
+abbrev pub outcomeOf : Played → List ℕ → Outcome
+outcomeOf r buffer = record { session = sessionOf (r .session); answer = answerOf (r .answer); buffer = buffer }
+
+-- the play `t` was taken: session and number are its own, and its row stands at the front of the row buffer
+pub record Took (t : Step) (r : Taken) (old new : List ℕ) : Type 0 where
+  pub session : sessionOf (r .session) ≡ t .session
+  pub number : r .number ≡ t .number
+  pub row : new ≡ atFront (rowOf t) old
+
+-- the refusal that ends the session where a command is due, or 0
+unfoldable pub refusalDue : List ℕ → ℕ → ℕ → ℕ
+refusalDue file at set =
+    pick (leb (length file) at) 13
+    (pick (not (isKnown (getD file at 0))) 14
+    (pick (needsSet (getD file at 0) && lacksSet (setHeld set)) 3
+    (pick (ltb (length file) (at + 1 + operandSize (setHeld set) (getD file at 0))) 13 0)))

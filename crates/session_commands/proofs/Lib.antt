@@ -1,0 +1,4 @@
+pub mod Room
+pub mod InFront
+pub mod Needing
+pub mod ByByte

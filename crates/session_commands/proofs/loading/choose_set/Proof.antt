@@ -1,0 +1,29 @@
+-- `loading::choose_set` meets its contract: each answer by the test of the byte.
+-- Assumes nothing.
+use Prim.Native.Nat.{_<_}
+use native.Mathlib.Omega.{arith}
+use lib.ListN.{getD}
+use borrow.Author.Needs.{needs}
+use borrow.Author.Tests.{lt-ltb, le-ltb}
+use Rattle.session_rules.specs.Commands.{chooseSet}
+use Rattle.session_commands.proofs.loading.choose_set.Statement.{statement}
+use Rattle.session_commands.proofs.loading.choose_set.Tie as tie
+
+shared-slice-read-set : tie.Need-shared-slice-read-set
+shared-slice-read-set c = search needs
+
+returns : tie.Need-returns
+unfolding chooseSet
+returns c = rw (le-ltb _ 5 (c .if1 .taken))
+
+only-set-requires : tie.Need-only-set-requires
+only-set-requires c κs = search needs
+
+returns-2 : tie.Need-returns-2
+unfolding chooseSet
+returns-2 c =
+    let known : getD (c .before .before .before .before .args .operand .now) 0 0 < 5 = omega arith in
+    rw (c .only-set .ensures, lt-ltb _ 5 known)
+
+pub choose-set-spec : {M : Type 1} → statement M
+choose-set-spec = tie.close (tie.spec shared-slice-read-set returns only-set-requires returns-2)

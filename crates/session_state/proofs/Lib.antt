@@ -1,0 +1,2 @@
+pub mod MaskList
+pub mod State
