@@ -72,21 +72,29 @@ void plain_powers(const struct plain_set *s, uint32_t *powers)
     }
 }
 
+/* k + j modulo n, for both below n */
+static size_t turned(size_t k, size_t j, size_t n) { return k < n - j ? k + j : k - (n - j); }
+
+/* four terms a turn, as the kit has it: their places do not wait for each other */
 void plain_evaluate(const struct plain_set *s, const uint32_t *powers, const int16_t *coefficients, const uint16_t *points, size_t count, uint32_t *out)
 {
-    uint32_t residues[1153];
-    for (size_t i = 0; i < s->n; i++) {
-        int32_t r = coefficients[i] % (int32_t)s->q;
-        residues[i] = r < 0 ? r + s->q : (uint32_t)r;
+    uint32_t r[1153];
+    size_t n = s->n;
+    for (size_t i = 0; i < n; i++) {
+        int32_t x = coefficients[i] % (int32_t)s->q;
+        r[i] = x < 0 ? x + s->q : (uint32_t)x;
     }
     for (size_t p = 0; p < count; p++) {
+        size_t j = points[p], j2 = turned(j, j, n), j3 = turned(j2, j, n), j4 = turned(j3, j, n), k = 0, i = 0;
         uint64_t sum = 0;
-        size_t k = 0;
-        for (size_t i = 0; i < s->n; i++) {
-            sum += (uint64_t)residues[i] * powers[k];
-            k += points[p];
-            if (k >= s->n)
-                k -= s->n;
+        for (; i + 4 <= n; i += 4) {
+            sum += (uint64_t)r[i] * powers[k] + (uint64_t)r[i + 1] * powers[turned(k, j, n)] + (uint64_t)r[i + 2] * powers[turned(k, j2, n)]
+                   + (uint64_t)r[i + 3] * powers[turned(k, j3, n)];
+            k = turned(k, j4, n);
+        }
+        for (; i < n; i++) {
+            sum += (uint64_t)r[i] * powers[k];
+            k = turned(k, j, n);
         }
         out[p] = sum % s->q;
     }
@@ -106,16 +114,10 @@ void plain_point(const struct plain_set *s, const int16_t *f, const int8_t *c, c
     }
 }
 
-int plain_challenge(const struct plain_set *s, const uint32_t *commitment, const uint8_t *message, size_t size, int8_t *c)
+int plain_draw(const struct plain_set *s, const uint8_t *pool, int8_t *c)
 {
-    uint8_t first[1152 + 64], pool[512], taken[1153] = {0};
+    uint8_t taken[1153] = {0};
     size_t kept = 0;
-    for (size_t i = 0; i < s->t; i++)
-        first[i] = commitment[i];
-    plain_sha512(message, size, first + s->t);
-    plain_sha512(first, s->t + 64, pool);
-    for (int i = 1; i < 8; i++)
-        plain_sha512(pool + 64 * (i - 1), 64, pool + 64 * i);
     memset(c, 0, s->n);
     for (size_t at = 8; at < 512 && kept < s->b; at += 2) {
         uint32_t v = pool[at] << 8 | pool[at + 1], index = v % s->n;
@@ -126,6 +128,18 @@ int plain_challenge(const struct plain_set *s, const uint32_t *commitment, const
         kept++;
     }
     return kept == s->b;
+}
+
+int plain_challenge(const struct plain_set *s, const uint32_t *commitment, const uint8_t *message, size_t size, int8_t *c)
+{
+    uint8_t first[1152 + 64], pool[512];
+    for (size_t i = 0; i < s->t; i++)
+        first[i] = commitment[i];
+    plain_sha512(message, size, first + s->t);
+    plain_sha512(first, s->t + 64, pool);
+    for (int i = 1; i < 8; i++)
+        plain_sha512(pool + 64 * (i - 1), 64, pool + 64 * i);
+    return plain_draw(s, pool, c);
 }
 
 static int in_range(const struct plain_set *s, const int32_t *z)

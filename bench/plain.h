@@ -15,11 +15,15 @@ void plain_evaluate(const struct plain_set *s, const uint32_t *powers, const int
 void plain_point(const struct plain_set *s, const int16_t *f, const int8_t *c, const int16_t *y, int32_t *z);
 /* the challenge of a commitment and a message: 1, or 0 where the pool is spent */
 int plain_challenge(const struct plain_set *s, const uint32_t *commitment, const uint8_t *message, size_t size, int8_t *c);
+/* the challenge of a pool of 512 bytes: 1, or 0 where it is spent */
+int plain_draw(const struct plain_set *s, const uint8_t *pool, int8_t *c);
 /* signs with one mask: 1, or 0 where it does not pass */
 int plain_sign(const struct plain_set *s, const uint32_t *powers, const uint8_t *secret_key, const uint16_t *points, const int16_t *mask,
                const uint8_t *message, size_t size, uint8_t *signature);
 /* 1 for yes */
 int plain_check(const struct plain_set *s, const uint32_t *powers, const uint8_t *public_key, const uint8_t *message, size_t size,
                 const uint8_t *signature);
+/* plays a session file to its end; each row overwrites the one before it */
+void plain_play(const uint8_t *file, size_t size, uint8_t *rows);
 
 #endif

@@ -1,44 +1,56 @@
-/* A marker: checks the signature in one file against the public key and the message in two others.
-   Prints yes, no or the refusal number, and exits with 0 only for a yes. */
+/* A marker: checks the signature in one file against the public key and the message in two others, and prints one row for the register,
+   "yes" or "no", ended by a line feed. A refusal prints no row.
+   Exit status: 0 yes, 1 no, 2 refused or not readable, with the reason on standard error. */
 #include "passign.h"
 #include <stdio.h>
 #include <stdlib.h>
 
+/* One byte more than the longest message, so that a longer one is seen and refused. */
 enum { ROOM = 65536 };
 struct input { uint8_t bytes[ROOM]; size_t length; };
+static struct input key, message, signature;
 
-static struct input read_file(const char *name)
+static void read_file(struct input *in, const char *name)
 {
-    static struct input in;
     FILE *file = fopen(name, "rb");
-    if (file == NULL) {
-        fprintf(stderr, "marker: cannot open %s: give the names of the public key, message and signature files\n", name);
+    int failed = file == NULL;
+    if (file != NULL) {
+        in->length = fread(in->bytes, 1, ROOM, file);
+        failed = ferror(file);
+        fclose(file);
+    }
+    if (failed) {
+        fprintf(stderr, "marker: cannot read %s: give the names of a public key, a message and a signature file\n", name);
         exit(2);
     }
-    in.length = fread(in.bytes, 1, ROOM, file);
-    fclose(file);
-    return in;
+}
+
+static const char *meaning(uint32_t refusal)
+{
+    switch (refusal) {
+    case 1: return "a file is empty or of the wrong length for its set, or the message has more than 65,535 bytes";
+    case 2: return "the key's first byte is no set 0 to 4, or the signature's is another set";
+    case 4: return "the public key's exponents are not strictly increasing in 1..N-1";
+    case 7: return "an evaluation of the public key is not below q";
+    case 12: return "a challenge index of the signature is not below N, or not increasing";
+    default: return "not a refusal of passign_check: header and archive do not fit";
+    }
 }
 
 int main(int argc, char **argv)
 {
-    static struct input key, message, signature;
-    uint32_t answer;
     if (argc != 4) {
         fprintf(stderr, "usage: marker PUBLIC_KEY MESSAGE SIGNATURE\n");
         return 2;
     }
-    key = read_file(argv[1]);
-    message = read_file(argv[2]);
-    signature = read_file(argv[3]);
-    answer = passign_check(key.bytes, key.length, message.bytes, message.length, signature.bytes, signature.length);
-    if (answer == 256) {
-        puts("yes");
-        return 0;
+    read_file(&key, argv[1]);
+    read_file(&message, argv[2]);
+    read_file(&signature, argv[3]);
+    uint32_t answer = passign_check(key.bytes, key.length, message.bytes, message.length, signature.bytes, signature.length);
+    if (answer == 256 || answer == 0) {
+        puts(answer == 256 ? "yes" : "no");
+        return answer == 256 ? 0 : 1;
     }
-    if (answer == 0)
-        puts("no");
-    else
-        printf("refused with %u\n", (unsigned)answer);
-    return 1;
+    fprintf(stderr, "marker: refused with %u: %s\n", (unsigned)answer, meaning(answer));
+    return 2;
 }

@@ -12,23 +12,21 @@ struct Turn {
     on: bool,
 }
 
+fn is_row(answer: Answer) -> bool {
+    match answer {
+        Answer::Row(_) => true,
+        Answer::Fault => false,
+        Answer::Ended => false,
+    }
+}
+
 fn play_one(session: Session, file: &[u8], rows: &mut [u8]) -> Turn {
     let played = play(session, file, rows);
     let next = played.session;
     let answer = played.answer;
-    match answer {
-        Answer::Row(_) => Turn {
-            session: next,
-            on: true,
-        },
-        Answer::Fault => Turn {
-            session: next,
-            on: false,
-        },
-        Answer::Ended => Turn {
-            session: next,
-            on: false,
-        },
+    Turn {
+        session: next,
+        on: is_row(answer),
     }
 }
 

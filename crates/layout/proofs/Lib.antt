@@ -1,0 +1,2 @@
+pub mod EncodedKey
+pub mod Evaluating

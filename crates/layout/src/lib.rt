@@ -11,7 +11,7 @@ ghost use Rattle.parameters.specs.Sound.{Fitting};
 ghost use Rattle.polynomial.specs.Polynomial.{ternary};
 ghost use Rattle.encoding.specs.Bytes.{numbers};
 ghost use Rattle.encoding.specs.Challenge.{areEntries};
-ghost use Rattle.encoding.specs.Encoding.{isKeyByte, keyCoefficient, secretKey, publicKeySize, arePoints, areEvaluations, pointsOf, evaluationsOf, publicKey, signatureSize, entriesRead, signatureBytes};
+ghost use Rattle.encoding.specs.Encoding.{isKeyByte, keyCoefficient, keyOf, secretKey, publicKeySize, arePoints, areEvaluations, pointsOf, evaluationsOf, publicKey, signatureSize, entriesRead, signatureBytes};
 use encoding::challenge_entries::are_entries_of;
 use encoding::numbers::read_triples;
 use encoding::numbers::read_words;
@@ -19,6 +19,7 @@ use encoding::numbers::write_triples;
 use encoding::numbers::write_words;
 use encoding::public_key::are_below;
 use encoding::public_key::are_points;
+use encoding::secret_key::read_key;
 use encoding::secret_key::write_key;
 use encoding::signed_numbers::write_signed_words16;
 use parameters::Params;
@@ -78,6 +79,16 @@ pub fn read_coefficients(bytes: &[u8], out: &mut [i8])
         out[i] = coefficient_of(bytes[i]);
         i += 1;
     }
+}
+
+// The coefficients of an encoded secret key, in front.
+pub fn coefficients_of(key: &[u8], n: usize) -> [i16; 1153]
+    requires { ⌜ (length (now key) ≡ 1 + n) × (n ≤ 1153) ⌝ }
+    ensures { λ r. ⌜ take n r ≡ keyOf (now (key .entry)) ⌝ }
+{
+    let mut f = [0i16; 1153];
+    read_key(&key[1..], &mut f[..n]);
+    f
 }
 
 // Whether a coefficient is -1, 0 or 1.

@@ -16,17 +16,18 @@ use Rattle.scheme.specs.Scheme.{Drawer, Signed}
 use Rattle.scheme.proofs.Correctness as polynomials
 use Rattle.scheme.proofs.Verdict.{verdict-true}
 use Rattle.signer.specs.Signer.{masksOf, signatureOf}
-use Rattle.passign.specs.declared.Signing.the-variants as signing
-use Rattle.passign.specs.declared.Verdict.the-variants as verdict
-use Rattle.passign.specs.Answer.{setByte}
-use Rattle.passign.specs.Sign.{signAnswerIn, signWrittenIn, signAnswer, signWritten}
-use Rattle.passign.specs.Check.{checkRefusalIn, checkAnswerIn, checkAnswer}
+use Rattle.answers.specs.declared.Signing.the-variants as signing
+use Rattle.answers.specs.declared.Verdict.the-variants as verdict
+use Rattle.answers.specs.Answer.{setByte}
+use Rattle.entry_sign.specs.Sign.{signAnswerIn, signWrittenIn, signAnswer, signWritten}
+use Rattle.entry_check.specs.Check.{checkRefusalIn, checkAnswerIn, checkAnswer}
 use Rattle.passign.specs.Keys.{publicKeyRefusal, publicKeyIn, publicKeyWritten}
 use Rattle.passign.specs.Hiding.{Encodable}
-use Rattle.passign.proofs.Apart.{refused-not-signed, refused-not-yes}
-use Rattle.passign.proofs.Refusal.{check-allowed}
+use Rattle.answers.proofs.Apart.{refused-not-signed, refused-not-yes}
+use Rattle.entry_check.proofs.Allowed.{check-allowed}
 use Rattle.passign.proofs.Encoded.{PublicKeyRead, public-key-read, signature-size, entries-allowed}
-use Rattle.passign.proofs.AcceptedSigning.{SignedAs, signed-bytes, accepted-signing, signing-of, allowed-of, size-of-key, writable, meaning}
+use Rattle.entry_sign.proofs.AcceptedSigning.{SignedAs, signed-bytes, accepted-signing, signing-of, allowed-of, size-of-key}
+use Rattle.passign.proofs.AcceptedBytes.{writable, meaning}
 use Rattle.passign.proofs.VerdictRule.{Rule, verdict-yes}
 use Rattle.passign.proofs.FiveSets.{set-encodable}
 use Rattle.passign.proofs.Entry.{sign-entry, written-entry, check-entry, public-key-entry}

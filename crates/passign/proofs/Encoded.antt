@@ -1,59 +1,35 @@
--- Keys and signatures as their bytes say them: an allowed key is ternary, and public keys and signatures that are written are read back and allowed.
+-- Public keys and signatures as their bytes say them: those that are written are read back and allowed.
 -- Assumes nothing.
 use mathlib.Core.Path.{_≡_, refl, sym, ap, ap₂, _∙_}
 use mathlib.Core.Bool.{Bool, true}
-use mathlib.Core.List.{List, [], _∷_, map}
+use mathlib.Core.List.{List, [], _∷_}
 use Prim.Native.Nat.{ℕ, zero, suc, _-_, _≤_}
 use native.Mathlib.Omega.{arith}
-use lib.Dec.{T, ltb, eqb, leb, lt→ltb, ltb→lt, leb→le}
+use lib.Dec.{T, ltb, leb, lt→ltb, ltb→lt, leb→le}
 use lib.IntN.{ℤ, pos, negsuc, natAbs}
-use lib.ListN.{length, getD, drop, length-map, length-drop}
+use lib.ListN.{length, getD, length-map}
 use lib.Signed.{mag}
-use borrow.Author.Tests.{eqb-true}
 use Rattle.algebra.specs.All.{all}
 use Rattle.algebra.proofs.All.{all-from}
-use Rattle.algebra.proofs.Test.{and-left, and-right, and-intro, holds-true, true-holds, by-test}
+use Rattle.algebra.proofs.Test.{and-left, and-right, and-intro, holds-true, true-holds}
 use Rattle.parameters.specs.declared.Params.{Params}
 use Rattle.parameters.specs.Sound.{Sound, Fitting}
 use Rattle.polynomial.specs.Polynomial.{within, ternary, weight}
 use Rattle.polynomial.specs.Evaluation.{evaluation, evaluations}
 use Rattle.polynomial.proofs.EvaluationLaws.{evaluation-below}
 use Rattle.encoding.specs.Challenge.{entriesFrom, entriesOf, areEntries, challengeOf}
-use Rattle.encoding.specs.Encoding.{secretKeySize, isKeyByte, keyCoefficient, isKey, keyOf, publicKeySize, publicKey, PublicKeyRange, arePoints, areEvaluations, pointsOf, evaluationsOf, signatureSize, SignatureRange, entriesRead, pointRead}
+use Rattle.encoding.specs.Encoding.{publicKeySize, publicKey, PublicKeyRange, arePoints, areEvaluations, pointsOf, evaluationsOf, signatureSize, SignatureRange, entriesRead, pointRead}
 use Rattle.encoding.proofs.Sign.{mag-le}
 use Rattle.encoding.proofs.Testing.{rising-below}
 use Rattle.encoding.proofs.OneEncoding.{points-read-back, evaluations-read-back, public-key-length, entries-read-back, point-read-back, signature-length, entries-accepted, entries-below, challenge-read-back}
 use Rattle.scheme.specs.Scheme.{Signature}
 use Rattle.signer.specs.Signer.{signatureOf}
-use Rattle.passign.specs.Check.{signatureRead}
+use Rattle.entry_check.specs.Check.{signatureRead}
 
 -- a weaker test of each element
 all-weaker : {A : Type 0} (f g : A → Bool) → ((x : A) → T (f x) → T (g x)) → (xs : List A) → T (all f xs) → T (all g xs)
 all-weaker f g h [] t = tt
 all-weaker f g h (x ∷ xs) t = and-intro (g x) (all g xs) (h x (and-left (f x) (all f xs) t)) (all-weaker f g h xs (and-right (f x) (all f xs) t))
-
--- ---- secret keys
-
-key-byte : (x : ℕ) → T (isKeyByte x) → T (leb (natAbs (keyCoefficient x)) 1)
-key-byte x t =
-    by-test (eqb x 255) (λ e. rw e tt)
-    (λ e. by-test (eqb x 0)
-    (λ z. rw (eqb-true x 0 z) tt)
-    (λ z. by-test (eqb x 1) (λ o. rw (eqb-true x 1 o) tt) (λ o. absurd (rw (e, z, o) at t))))
-
-key-bytes : (xs : List ℕ) → T (all isKeyByte xs) → T (ternary (map keyCoefficient xs))
-key-bytes [] t = tt
-key-bytes (x ∷ xs) t =
-    and-intro (leb (natAbs (keyCoefficient x)) 1) (ternary (map keyCoefficient xs)) (key-byte x (and-left (isKeyByte x) (all isKeyByte xs) t))
-    (key-bytes xs (and-right (isKeyByte x) (all isKeyByte xs) t))
-
-pub key-ternary : (key : List ℕ) → isKey key ≡ true → T (ternary (keyOf key))
-unfolding isKey keyOf
-key-ternary key e = key-bytes (drop 1 key) (true-holds e)
-
-pub key-size : (p : Params) (key : List ℕ) → length key ≡ secretKeySize p → length (keyOf key) ≡ p .n
-unfolding keyOf
-key-size p key e = length-map (drop 1 key) keyCoefficient ∙ length-drop 1 key ∙ omega arith
 
 -- ---- public keys
 

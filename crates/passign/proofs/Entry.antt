@@ -10,15 +10,15 @@ use lib.ListN.{length}
 use borrow.Author.Tests.{ltb-true, ltb-false, eqb-false, lt-ltb, le-ltb, ne-eqb}
 use Rattle.parameters.specs.Sets.{isSet, setOf}
 use Rattle.challenge.specs.Draw.{drawChallenge}
-use Rattle.passign.specs.declared.Signing.{Signing}
-use Rattle.passign.specs.declared.Signing.the-variants as signing
-use Rattle.passign.specs.declared.Verdict.{Verdict}
-use Rattle.passign.specs.declared.Verdict.the-variants as verdict
-use Rattle.passign.specs.Answer.{setByte}
-use Rattle.passign.specs.Sign.{isLong, signAnswerIn, signWrittenIn, signAnswer, signWritten}
-use Rattle.passign.specs.Check.{checkAnswerIn, checkAnswer}
+use Rattle.answers.specs.declared.Signing.{Signing}
+use Rattle.answers.specs.declared.Signing.the-variants as signing
+use Rattle.answers.specs.declared.Verdict.{Verdict}
+use Rattle.answers.specs.declared.Verdict.the-variants as verdict
+use Rattle.answers.specs.Answer.{setByte, isLong}
+use Rattle.entry_sign.specs.Sign.{signAnswerIn, signWrittenIn, signAnswer, signWritten}
+use Rattle.entry_check.specs.Check.{checkAnswerIn, checkAnswer}
 use Rattle.passign.specs.Keys.{publicKeyRefusal, publicKeyIn, publicKeyWritten}
-use Rattle.passign.proofs.Refusal.{passed, passed-not, equal-iff}
+use Rattle.answers.proofs.Refusal.{passed, passed-not, equal-iff}
 
 -- the message is not too long, the key is not empty, and its first byte is a set
 pub record Known (key message : List ℕ) : Type 0 where

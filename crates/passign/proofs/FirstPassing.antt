@@ -21,14 +21,13 @@ use Rattle.encoding.specs.Encoding.{secretKeySize, signatureSize, arePoints, is
 use Rattle.scheme.specs.Scheme.{Drawer, Signature, Signed, attempt}
 use Rattle.scheme.proofs.FirstPassing.{first-passing, none-passing, passed-over, failures}
 use Rattle.signer.specs.Signer.{masksOf, signatureOf, signedBy}
-use Rattle.passign.specs.declared.Signing.the-variants as answer
-use Rattle.passign.specs.Answer.{setByte}
-use Rattle.passign.specs.Sign.{areMasks, signRefusalIn, signedAnswer, signAnswerIn, signWrittenIn, signAnswer, signWritten}
-use Rattle.passign.specs.Hiding.{maskAt}
-use Rattle.passign.proofs.Apart.{refused-same, refused-not-signed}
-use Rattle.passign.proofs.Refusal.{chosen, equal-iff}
-use Rattle.passign.proofs.Masks.{offeredCount, masks-count, mask-at}
-use Rattle.passign.proofs.AcceptedSigning.{SignedAs, signed-answer, signed-bytes, accepted-signing, signing-of, first-of, offered}
+use Rattle.answers.specs.declared.Signing.the-variants as answer
+use Rattle.answers.specs.Answer.{setByte}
+use Rattle.entry_sign.specs.Sign.{areMasks, signRefusalIn, signedAnswer, signAnswerIn, signWrittenIn, signAnswer, signWritten, maskAt}
+use Rattle.answers.proofs.Apart.{refused-same, refused-not-signed}
+use Rattle.answers.proofs.Refusal.{chosen, equal-iff}
+use Rattle.entry_sign.proofs.Masks.{offeredCount, masks-count, mask-at}
+use Rattle.entry_sign.proofs.AcceptedSigning.{SignedAs, signed-answer, signed-bytes, accepted-signing, signing-of, first-of, offered}
 use Rattle.passign.proofs.Entry.{Known, sign-entry, written-entry}
 
 -- no test of `sign` answers 9

@@ -11,14 +11,14 @@ use Rattle.challenge.specs.Draw.{drawChallenge}
 use Rattle.encoding.specs.Encoding.{publicKey}
 use Rattle.scheme.specs.Scheme.{Drawer}
 use Rattle.scheme.specs.Hiding.{ExactlyOne}
-use Rattle.passign.specs.declared.Signing.the-variants as signing
-use Rattle.passign.specs.Answer.{setByte}
-use Rattle.passign.specs.Sign.{signAnswer}
-use Rattle.passign.specs.Check.{signatureRead, checkAnswerIn, checkAnswer}
+use Rattle.answers.specs.declared.Signing.the-variants as signing
+use Rattle.answers.specs.Answer.{setByte}
+use Rattle.entry_sign.specs.Sign.{signAnswer}
+use Rattle.entry_check.specs.Check.{signatureRead, checkAnswerIn, checkAnswer}
 use Rattle.passign.specs.Keys.{publicKeyIn}
 use Rattle.passign.specs.Hiding.{Encodable, Call, Accepted, bytesOf, signatureIn, OtherKey, Same, SaysYes, maskFor, setIn, writtenBy, EntrySame, EntrySaysYes}
-use Rattle.passign.proofs.Apart.{refused-not-signed}
-use Rattle.passign.proofs.AcceptedSigning.{accepted-signing}
+use Rattle.answers.proofs.Apart.{refused-not-signed}
+use Rattle.entry_sign.proofs.AcceptedSigning.{accepted-signing}
 use Rattle.passign.proofs.OtherMask.{same-iff}
 use Rattle.passign.proofs.Correctness.{correctness, sign-then-check}
 use Rattle.passign.proofs.FiveSets.{set-encodable}

@@ -9,7 +9,7 @@ use lib.IntN.{ℤ}
 use Rattle.challenge.specs.Draw.{drawChallenge}
 use Rattle.scheme.specs.Scheme.{Drawer}
 use Rattle.scheme.specs.Hiding.{ExactlyOne}
-use Rattle.passign.specs.Check.{signatureRead}
+use Rattle.entry_check.specs.Check.{signatureRead}
 use Rattle.passign.specs.Hiding.{signatureIn, OtherKey, Same, SaysYes, maskFor, setIn, writtenBy, EntrySame, EntrySaysYes, AcceptedCall, AcceptedEntry, Each, Each₃}
 use Rattle.passign.proofs.Hiding.{exactly-one, hiding-exactly, hiding-verdict, entry-hiding-exactly, entry-hiding-verdict}
 

@@ -1,5 +1,3 @@
-pub mod Evaluating
-pub mod Answering
 pub mod WorkedCases
 pub mod Correctness
 pub mod VerdictRule
@@ -8,11 +6,8 @@ pub mod Range
 pub mod Hiding
 pub mod HidingOfMany
 pub mod FiveSets
-pub mod Apart
-pub mod Refusal
 pub mod Entry
-pub mod Masks
 pub mod Encoded
-pub mod AcceptedSigning
+pub mod AcceptedBytes
 pub mod OtherMask
 pub mod OtherEntry

@@ -9,8 +9,8 @@ use native.Mathlib.Omega.{arith}
 use lib.IntN.{ℤ}
 use Rattle.parameters.specs.Sets.{setOf}
 use Rattle.challenge.specs.Draw.{drawChallenge}
-use Rattle.passign.specs.Sign.{signAnswer, signWritten, signAnswerIn, signWrittenIn}
-use Rattle.passign.specs.Check.{signatureRead}
+use Rattle.entry_sign.specs.Sign.{signAnswer, signWritten, signAnswerIn, signWrittenIn}
+use Rattle.entry_check.specs.Check.{signatureRead}
 use Rattle.passign.specs.Hiding.{Call, bytesOf, signatureIn, OtherKey, Same, setIn, writtenBy, EntrySame}
 use Rattle.passign.proofs.Entry.{Known, answer-entry, written-entry}
 

@@ -23,13 +23,14 @@ use Rattle.scheme.proofs.Attempt.{attempt-iff}
 use Rattle.scheme.proofs.FirstPassing.{first-passing}
 use Rattle.scheme.proofs.Hiding as polynomials
 use Rattle.signer.specs.Signer.{masksOf, signatureOf, signedBy}
-use Rattle.passign.specs.Sign.{areMasks}
-use Rattle.passign.specs.Check.{signatureRead}
+use Rattle.entry_sign.specs.Sign.{areMasks}
+use Rattle.entry_check.specs.Check.{signatureRead}
 use Rattle.passign.specs.Hiding.{Encodable, Call, signatureIn, OtherKey, Same, maskFor}
-use Rattle.passign.proofs.Refusal.{sign-allowed}
-use Rattle.passign.proofs.Masks.{offeredCount, masks-count, mask-at, mask-size, mask-alone}
-use Rattle.passign.proofs.Encoded.{key-size, key-ternary}
-use Rattle.passign.proofs.AcceptedSigning.{SignedAs, accepted-signing, signed-answer, signed-bytes, signing-of, allowed-of, size-of-key, commitment-of, meaning}
+use Rattle.entry_sign.proofs.Allowed.{sign-allowed}
+use Rattle.entry_sign.proofs.Masks.{offeredCount, masks-count, mask-at, mask-size, mask-alone}
+use Rattle.layout.proofs.EncodedKey.{key-size, key-ternary}
+use Rattle.entry_sign.proofs.AcceptedSigning.{SignedAs, accepted-signing, signed-answer, signed-bytes, signing-of, allowed-of, size-of-key, commitment-of}
+use Rattle.passign.proofs.AcceptedBytes.{meaning}
 
 signed-is : (r : Signed) {n : ℕ} {w : List ℕ} {s : Signature} → r .passedOver ≡ n → r .commitment ≡ w → r .signature ≡ s
     → r ≡ record { passedOver = n; commitment = w; signature = s }

@@ -16,12 +16,11 @@ use Rattle.challenge.specs.Draw.{drawChallenge}
 use Rattle.encoding.specs.Encoding.{keyOf}
 use Rattle.scheme.specs.Scheme.{Drawer, Draws}
 use Rattle.scheme.proofs.Range as polynomials
-use Rattle.passign.specs.Answer.{setByte}
-use Rattle.passign.specs.Sign.{signRefusalIn}
-use Rattle.passign.specs.Hiding.{maskAt}
-use Rattle.passign.proofs.Refusal.{sign-allowed}
-use Rattle.passign.proofs.Masks.{mask-small}
-use Rattle.passign.proofs.Encoded.{key-ternary}
+use Rattle.answers.specs.Answer.{setByte}
+use Rattle.entry_sign.specs.Sign.{signRefusalIn, maskAt}
+use Rattle.entry_sign.proofs.Allowed.{sign-allowed}
+use Rattle.entry_sign.proofs.Masks.{mask-small}
+use Rattle.layout.proofs.EncodedKey.{key-ternary}
 use Rattle.passign.proofs.FiveSets.{set-encodable}
 use Rattle.passign.proofs.FirstPassing.{SignUnrefused}
 

@@ -12,11 +12,11 @@ use Rattle.challenge.specs.Draw.{drawChallenge}
 use Rattle.encoding.specs.Encoding.{pointsOf, evaluationsOf}
 use Rattle.scheme.specs.Scheme.{Drawer}
 use Rattle.scheme.proofs.Verdict.{Valid, verdict-true, verdict-false}
-use Rattle.passign.specs.declared.Verdict.the-variants as answer
-use Rattle.passign.specs.Answer.{setByte}
-use Rattle.passign.specs.Check.{checkRefusalIn, signatureRead, checkVerdict, checkAnswerIn, checkAnswer}
-use Rattle.passign.proofs.Apart.{refused-not-yes, refused-not-no, yes-not-no, no-not-yes}
-use Rattle.passign.proofs.Refusal.{passed, chosen, end, equal-iff}
+use Rattle.answers.specs.declared.Verdict.the-variants as answer
+use Rattle.answers.specs.Answer.{setByte}
+use Rattle.entry_check.specs.Check.{checkRefusalIn, signatureRead, checkVerdict, checkAnswerIn, checkAnswer}
+use Rattle.answers.proofs.Apart.{refused-not-yes, refused-not-no, yes-not-no, no-not-yes}
+use Rattle.answers.proofs.Refusal.{passed, chosen, end, equal-iff}
 use Rattle.passign.proofs.Entry.{KnownBoth, check-entry}
 
 module _ (draw : Drawer) (p : Params) (key message signature : List ℕ) where

@@ -11,7 +11,7 @@ use Rattle.parameters.specs.declared.Params.{Params}
 use Rattle.parameters.specs.Sets.{setOf}
 use Rattle.polynomial.specs.Evaluation.{evaluations}
 use Rattle.encoding.specs.Encoding.{arePoints}
-use Rattle.passign.specs.Answer.{inSet, unlessRefused}
+use Rattle.answers.specs.Answer.{inSet, unlessRefused}
 
 -- lengths, then 4: `size` coefficients and `room` places in the buffer
 unfoldable pub evaluateRefusalIn : Params → ℕ → List ℕ → ℕ → ℕ

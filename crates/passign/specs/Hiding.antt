@@ -5,10 +5,10 @@ use mathlib.Core.Path.{_≡_}
 use mathlib.Core.Bool.{true}
 use mathlib.Core.List.{List, [], _∷_}
 use mathlib.Core.Option.{some}
-use Prim.Native.Nat.{ℕ, _*_}
+use Prim.Native.Nat.{ℕ}
 use lib.Dec.{T}
 use lib.IntN.{ℤ}
-use lib.ListN.{length, take, drop}
+use lib.ListN.{length}
 use Rattle.parameters.specs.declared.Params.{Params}
 use Rattle.parameters.specs.Sets.{setOf}
 use Rattle.parameters.specs.Sound.{Sound, Fitting}
@@ -17,11 +17,11 @@ use Rattle.polynomial.specs.Evaluation.{evaluations}
 use Rattle.challenge.specs.Draw.{drawChallenge}
 use Rattle.encoding.specs.Encoding.{secretKeySize, isKey, keyOf, publicKey}
 use Rattle.scheme.specs.Scheme.{Drawer, Draws, Signature}
-use Rattle.passign.specs.declared.Signing.the-variants as signing
-use Rattle.passign.specs.declared.Verdict.the-variants as verdict
-use Rattle.passign.specs.Answer.{setByte}
-use Rattle.passign.specs.Sign.{signAnswerIn, signWrittenIn, signAnswer, signWritten}
-use Rattle.passign.specs.Check.{signatureRead, checkAnswerIn, checkAnswer}
+use Rattle.answers.specs.declared.Signing.the-variants as signing
+use Rattle.answers.specs.declared.Verdict.the-variants as verdict
+use Rattle.answers.specs.Answer.{setByte}
+use Rattle.entry_sign.specs.Sign.{maskAt, signAnswerIn, signWrittenIn, signAnswer, signWritten}
+use Rattle.entry_check.specs.Check.{signatureRead, checkAnswerIn, checkAnswer}
 
 -- what the theorems on bytes ask of a set and a way to draw: besides soundness that all has room in the encodings, and that a drawn
 -- challenge has exactly b entries
@@ -38,10 +38,6 @@ pub record Call : Type 0 where
   pub masks : List ℤ
   pub message : List ℕ
   pub out : List ℕ
-
--- mask number i of masks that lie one after the other
-abbrev pub maskAt : Params → List ℤ → ℕ → List ℤ
-maskAt p masks i = take (p .n) (drop (i * p .n) masks)
 
 module _ (draw : Drawer) (p : Params) where
   -- the signing is accepted, by mask number i

@@ -10,7 +10,7 @@ use Rattle.parameters.specs.declared.Params.{Params}
 use Rattle.parameters.specs.Sets.{setOf}
 use Rattle.polynomial.specs.Evaluation.{evaluations}
 use Rattle.encoding.specs.Encoding.{secretKeySize, publicKeySize, arePoints, isKey, keyOf, publicKey}
-use Rattle.passign.specs.Answer.{setByte, inSetOf, unlessRefused}
+use Rattle.answers.specs.Answer.{setByte, inSetOf, unlessRefused}
 
 -- lengths, then 4, 5
 unfoldable pub publicKeyRefusalIn : Params → List ℕ → List ℕ → ℕ → ℕ

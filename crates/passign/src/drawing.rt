@@ -1,7 +1,7 @@
 // The drawer as an entry.
 ghost use mathlib.Core.Path.{_≡_};
 ghost use lib.ListN.{length};
-ghost use Rattle.passign.specs.Answer.{answerOf};
+ghost use Rattle.answers.specs.Answer.{answerOf};
 ghost use Rattle.passign.specs.Draw.{isPoolSize, drawRefusal, drawWritten};
 use crate::Answer;
 use challenge::draw::draw_from;

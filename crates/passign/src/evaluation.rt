@@ -1,6 +1,6 @@
 // The evaluator as an entry.
 ghost use mathlib.Core.Path.{_≡_};
-ghost use Rattle.passign.specs.Answer.{answerOf};
+ghost use Rattle.answers.specs.Answer.{answerOf};
 ghost use Rattle.passign.specs.Evaluate.{evaluateRefusalIn, evaluateRefusal, evaluateWritten};
 use crate::Answer;
 use encoding::public_key::are_points;

@@ -1,18 +1,18 @@
 // The public key of a secret key.
 ghost use mathlib.Core.Path.{_≡_};
 ghost use mathlib.Core.Bool.{true};
-ghost use Prim.Native.Nat.{_+_, _<_, _≤_};
+ghost use Prim.Native.Nat.{_<_};
 ghost use lib.ListN.{length, take};
 ghost use Rattle.parameters.specs.Sets.{setOf};
 ghost use Rattle.parameters.specs.Sound.{Fitting};
 ghost use Rattle.polynomial.specs.Evaluation.{evaluations};
 ghost use Rattle.encoding.specs.Encoding.{secretKeySize, arePoints, keyOf};
-ghost use Rattle.passign.specs.Answer.{answerOf};
+ghost use Rattle.answers.specs.Answer.{answerOf};
 ghost use Rattle.passign.specs.Keys.{publicKeyRefusalIn, publicKeyRefusal, publicKeyWritten};
 use crate::Answer;
 use encoding::public_key::are_points;
 use encoding::secret_key::are_key_bytes;
-use encoding::secret_key::read_key;
+use layout::coefficients_of;
 use layout::put_public_key;
 use parameters::Params;
 use parameters::params_of;
@@ -42,16 +42,6 @@ fn refusal_in(p: Params, key: &[u8], points: &[u16], room: usize) -> u32
         return 0;
     }
     5
-}
-
-// The coefficients of an encoded secret key, in front.
-pub(crate) fn coefficients_of(key: &[u8], n: usize) -> [i16; 1153]
-    requires { ⌜ (length (now key) ≡ 1 + n) × (n ≤ 1153) ⌝ }
-    ensures { λ r. ⌜ take n r ≡ keyOf (now (key .entry)) ⌝ }
-{
-    let mut f = [0i16; 1153];
-    read_key(&key[1..], &mut f[..n]);
-    f
 }
 
 // The public evaluations of an encoded secret key at the points, in front.

@@ -1,11 +1,11 @@
 // The library for C: each function is one call of it, its answer as a number. include/passign.h declares them.
 ghost use mathlib.Core.Path.{_≡_};
-ghost use Rattle.passign.specs.Answer.{answerOf, numberOf, signingNumber, verdictNumber};
-ghost use Rattle.passign.specs.Check.{checkAnswer};
+ghost use Rattle.answers.specs.Answer.{answerOf, numberOf, signingNumber, verdictNumber};
+ghost use Rattle.entry_check.specs.Check.{checkAnswer};
 ghost use Rattle.passign.specs.Draw.{drawRefusal, drawWritten};
 ghost use Rattle.passign.specs.Evaluate.{evaluateRefusal, evaluateWritten};
 ghost use Rattle.passign.specs.Keys.{publicKeyRefusal, publicKeyWritten};
-ghost use Rattle.passign.specs.Sign.{signAnswer, signWritten};
+ghost use Rattle.entry_sign.specs.Sign.{signAnswer, signWritten};
 use passign::Answer;
 use passign::Signing;
 use passign::Verdict;

@@ -21,28 +21,27 @@ fn write_row(rows: &[u8]) {
     io::write_all(STDOUT_FILENO, &rows[..size]);
 }
 
+// Writes the row of a play that wrote one, and says whether it did.
+fn tell(answer: Answer, rows: &[u8]) -> bool {
+    match answer {
+        Answer::Row(_) => {
+            write_row(rows);
+            true
+        }
+        Answer::Fault => false,
+        Answer::Ended => false,
+    }
+}
+
 // One play, and its row.
 fn play_one(session: Session, file: &[u8]) -> Turn {
     let mut rows = [0u8; 16384];
     let played = play(session, file, &mut rows);
     let next = played.session;
     let answer = played.answer;
-    match answer {
-        Answer::Row(_) => {
-            write_row(&rows);
-            Turn {
-                session: next,
-                on: true,
-            }
-        }
-        Answer::Fault => Turn {
-            session: next,
-            on: false,
-        },
-        Answer::Ended => Turn {
-            session: next,
-            on: false,
-        },
+    Turn {
+        session: next,
+        on: tell(answer, &rows),
     }
 }
 

@@ -10,7 +10,7 @@ use lib.ListN.{length, getD, take, drop, List·getD-eq-default}
 use borrow.Author.Tests.{leb-true, leb-false, ltb-true, ltb-false, eq-eqb, ne-eqb}
 use Rattle.algebra.specs.Choice.{pick}
 use Rattle.algebra.proofs.Test.{by-test}
-use Rattle.passign.proofs.Refusal.{passed, passed-not, end}
+use Rattle.answers.proofs.Refusal.{passed, passed-not, end}
 use Rattle.session_rules.specs.Commands.{isKnown, needsSet, operandSize, command}
 use Rattle.session_rules.specs.Play.{Session, Step, lacksSet, endsAt, goesOn, byteDue, sizeDue, endCommand, commandStep}
 use Rattle.session_state.specs.State.{setHeld}

@@ -75,9 +75,10 @@ fn refusal_due(file: &[u8], at: usize, set: u8) -> u32
         return 3;
     }
     if size - at - 1 < operand_size(set, byte) {
-        return 13;
+        13
+    } else {
+        0
     }
-    0
 }
 
 // Behind a 00 nothing may follow: 0 where the file ends there, else 16.

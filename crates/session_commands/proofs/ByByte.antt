@@ -17,7 +17,7 @@ use Rattle.session_rules.specs.Rows.{rowText, atFront}
 use Rattle.session_state.specs.declared.Held as state
 use Rattle.session_state.specs.State.{chosenIn, setHeld, heldIn, heldOf}
 use Rattle.session_state.proofs.State.{heldOf-in, lacks-set}
-use Rattle.session_commands.specs.Ran.{Ran}
+use Rattle.session_state.specs.Ran.{Ran}
 
 -- what is done, with the row of its number and payload
 pub ran-as : {done given : Done} {ordinal byte : ℕ} {old new : List ℕ} → given ≡ done

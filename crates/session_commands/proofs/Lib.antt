@@ -1,4 +1,1 @@
-pub mod Room
-pub mod InFront
-pub mod Needing
 pub mod ByByte

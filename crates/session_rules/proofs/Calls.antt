@@ -15,9 +15,9 @@ use Rattle.polynomial.specs.Evaluation.{evaluations}
 use Rattle.challenge.specs.Draw.{drawChallenge}
 use Rattle.encoding.specs.Bytes.{joined}
 use Rattle.encoding.specs.Encoding.{publicKey, keyOf}
-use Rattle.passign.specs.declared.Signing.{Signing}
-use Rattle.passign.specs.Answer.{setByte}
-use Rattle.passign.specs.Check.{signatureRead, checkAnswer}
+use Rattle.answers.specs.declared.Signing.{Signing}
+use Rattle.answers.specs.Answer.{setByte}
+use Rattle.entry_check.specs.Check.{signatureRead, checkAnswer}
 use Rattle.passign.specs.Hiding as library
 use Rattle.passign.specs.Hiding.{Call, maskFor, writtenBy, EntrySame, EntrySaysYes, AcceptedEntry, Each, Each₃}
 use Rattle.passign.proofs.HidingOfMany.{EntryOtherKeys, EntrySameEach, entryMasksFor, entry-hiding-of-many-exactly, entry-hiding-of-many-verdicts}

@@ -29,13 +29,12 @@ use Rattle.encoding.proofs.Testing.{rising-below}
 use Rattle.encoding.proofs.OneEncoding.{public-key-length, points-read-back, evaluations-read-back}
 use Rattle.scheme.specs.Scheme.{Signed}
 use Rattle.signer.specs.Signer.{signedBy}
-use Rattle.passign.specs.declared.Signing.the-variants as signing
-use Rattle.passign.specs.declared.Verdict.the-variants as verdict
-use Rattle.passign.specs.Sign.{areMasks, signRefusalIn, signedAnswer, signAnswerIn, signAnswer}
-use Rattle.passign.specs.Check.{checkRefusalIn, checkVerdict, checkAnswerIn, checkAnswer}
-use Rattle.passign.specs.Hiding.{maskAt}
-use Rattle.passign.proofs.Apart.{refused-same, refused-not-signed, refused-not-yes, refused-not-no}
-use Rattle.passign.proofs.Refusal.{sign-allowed}
+use Rattle.answers.specs.declared.Signing.the-variants as signing
+use Rattle.answers.specs.declared.Verdict.the-variants as verdict
+use Rattle.entry_sign.specs.Sign.{areMasks, signRefusalIn, signedAnswer, signAnswerIn, signAnswer, maskAt}
+use Rattle.entry_check.specs.Check.{checkRefusalIn, checkVerdict, checkAnswerIn, checkAnswer}
+use Rattle.answers.proofs.Apart.{refused-same, refused-not-signed, refused-not-yes, refused-not-no}
+use Rattle.entry_sign.proofs.Allowed.{sign-allowed}
 use Rattle.passign.proofs.Entry.{Known, answer-entry}
 use Rattle.session_rules.specs.Commands.{signatureRoom}
 use Rattle.session_rules.proofs.Telling.{isMask, ArePoints, IsKey, AreEvaluations}

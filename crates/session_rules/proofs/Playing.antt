@@ -24,12 +24,12 @@ use Rattle.polynomial.specs.Evaluation.{evaluation, evaluations}
 use Rattle.encoding.specs.Bytes.{numbers, signed16, joined}
 use Rattle.encoding.specs.Encoding.{isKeyByte, keyCoefficient, arePoints, areEvaluations, publicKey}
 use Rattle.encoding.proofs.Inverse.{all-drop}
-use Rattle.passign.specs.declared.Signing.{Signing}
-use Rattle.passign.specs.declared.Signing.the-variants as signing
-use Rattle.passign.specs.declared.Verdict.{Verdict}
-use Rattle.passign.specs.declared.Verdict.the-variants as verdict
-use Rattle.passign.specs.Sign.{signAnswer, signWritten}
-use Rattle.passign.specs.Check.{checkAnswer}
+use Rattle.answers.specs.declared.Signing.{Signing}
+use Rattle.answers.specs.declared.Signing.the-variants as signing
+use Rattle.answers.specs.declared.Verdict.{Verdict}
+use Rattle.answers.specs.declared.Verdict.the-variants as verdict
+use Rattle.entry_sign.specs.Sign.{signAnswer, signWritten}
+use Rattle.entry_check.specs.Check.{checkAnswer}
 use Rattle.passign.proofs.Encoded.{public-key-read}
 use Rattle.session_rules.specs.Held.{Chosen, Held, withMasks}
 use Rattle.session_rules.specs.Commands.{Payload, nothing, signed, Done, accepted, refused, needing, chooseSet, keyEvaluations, maskOf, signatureRoom, loadPoints, loadKey, loadMask, loadMessage, afterSigning, sign, afterCheck, check, loadEvaluations, needsSet, operandSizeIn, operandSize, commandIn, command}

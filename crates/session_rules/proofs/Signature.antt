@@ -16,13 +16,14 @@ use Rattle.encoding.specs.Challenge.{entriesOf}
 use Rattle.encoding.specs.Encoding.{signatureSize, signatureBytes}
 use Rattle.scheme.specs.Scheme.{Signed, Signature}
 use Rattle.signer.specs.Signer.{signatureOf}
-use Rattle.passign.specs.declared.Signing.the-variants as signing
-use Rattle.passign.specs.Answer.{setByte}
-use Rattle.passign.specs.Sign.{signAnswer, signWritten}
-use Rattle.passign.proofs.Apart.{refused-not-signed}
+use Rattle.answers.specs.declared.Signing.the-variants as signing
+use Rattle.answers.specs.Answer.{setByte}
+use Rattle.entry_sign.specs.Sign.{signAnswer, signWritten}
+use Rattle.answers.proofs.Apart.{refused-not-signed}
 use Rattle.passign.proofs.Encoded as encoded-laws
-use Rattle.passign.proofs.Masks.{offeredCount}
-use Rattle.passign.proofs.AcceptedSigning.{SignedAs, accepted-signing, signed-bytes, offered, writable}
+use Rattle.entry_sign.proofs.Masks.{offeredCount}
+use Rattle.entry_sign.proofs.AcceptedSigning.{SignedAs, accepted-signing, signed-bytes, offered}
+use Rattle.passign.proofs.AcceptedBytes.{writable}
 use Rattle.passign.proofs.FiveSets.{set-encodable}
 use Rattle.passign.proofs.Entry.{Known, sign-entry, written-entry}
 

@@ -9,8 +9,8 @@ use borrow.Author.Tests.{not-true}
 use Rattle.algebra.specs.All.{all}
 use Rattle.algebra.proofs.Test.{and-left, and-right, holds-true, true-holds, pick-by}
 use Rattle.encoding.specs.Bytes.{joined}
-use Rattle.passign.specs.declared.Signing.the-variants as signing
-use Rattle.passign.specs.Sign.{signAnswer, signWritten}
+use Rattle.answers.specs.declared.Signing.the-variants as signing
+use Rattle.entry_sign.specs.Sign.{signAnswer, signWritten}
 use Rattle.session_rules.specs.Commands.{Payload, signatureRoom}
 use Rattle.session_rules.specs.Rows.{rowText, atFront}
 use Rattle.session_rules.specs.Play.{Session, step, Outcome, play}

@@ -16,12 +16,12 @@ use Rattle.polynomial.specs.Polynomial.{within}
 use Rattle.polynomial.specs.Evaluation.{evaluations}
 use Rattle.encoding.specs.Bytes.{numbers, signed16, joined}
 use Rattle.encoding.specs.Encoding.{isKeyByte, keyCoefficient, arePoints, areEvaluations, publicKey, signatureSize}
-use Rattle.passign.specs.declared.Signing.{Signing}
-use Rattle.passign.specs.declared.Signing.the-variants as signing
-use Rattle.passign.specs.declared.Verdict.{Verdict}
-use Rattle.passign.specs.declared.Verdict.the-variants as verdict
-use Rattle.passign.specs.Sign.{signAnswer, signWritten}
-use Rattle.passign.specs.Check.{checkAnswer}
+use Rattle.answers.specs.declared.Signing.{Signing}
+use Rattle.answers.specs.declared.Signing.the-variants as signing
+use Rattle.answers.specs.declared.Verdict.{Verdict}
+use Rattle.answers.specs.declared.Verdict.the-variants as verdict
+use Rattle.entry_sign.specs.Sign.{signAnswer, signWritten}
+use Rattle.entry_check.specs.Check.{checkAnswer}
 use Rattle.session_rules.specs.Held.{Chosen, Held, onlySet, withMasks}
 
 -- what an accepted command adds to its row: nothing; the evaluations (03); the number passed over and the signature (06); 1 or 0 (07)

@@ -17,12 +17,12 @@ use Rattle.polynomial.specs.Evaluation.{evaluations}
 use Rattle.challenge.specs.Draw.{drawChallenge}
 use Rattle.encoding.specs.Bytes.{numbers, joined}
 use Rattle.encoding.specs.Encoding.{secretKeySize, isKey, keyOf, publicKey}
-use Rattle.passign.specs.declared.Signing.{Signing}
-use Rattle.passign.specs.declared.Signing.the-variants as signing
-use Rattle.passign.specs.declared.Verdict.the-variants as verdict
-use Rattle.passign.specs.Answer.{setByte}
-use Rattle.passign.specs.Sign.{signAnswer, signWritten}
-use Rattle.passign.specs.Check.{checkAnswer, signatureRead}
+use Rattle.answers.specs.declared.Signing.{Signing}
+use Rattle.answers.specs.declared.Signing.the-variants as signing
+use Rattle.answers.specs.declared.Verdict.the-variants as verdict
+use Rattle.answers.specs.Answer.{setByte}
+use Rattle.entry_sign.specs.Sign.{signAnswer, signWritten}
+use Rattle.entry_check.specs.Check.{checkAnswer, signatureRead}
 use Rattle.session_rules.specs.Commands.{maskOf, signatureRoom}
 use Rattle.session_rules.specs.Play.{Session, opened, step, Answer, row, fault, over, Outcome, play}
 

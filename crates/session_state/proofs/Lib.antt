@@ -1,2 +1,4 @@
 pub mod MaskList
 pub mod State
+pub mod Room
+pub mod InFront

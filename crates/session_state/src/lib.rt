@@ -7,6 +7,7 @@ ghost use Rattle.session_state.specs.State.{setHeld, hasPoints, heldOf};
 use encoding::public_key::are_points;
 use parameters::Params;
 
+pub mod bytes;
 pub mod mask_list;
 
 // The points, t of them in front.
@@ -46,6 +47,12 @@ pub struct Held {
     pub evaluations: Evaluations,
     pub masks: Masks,
     pub message: Message,
+}
+
+// What a command did: its number, 0 or the refusal, and what is held after it.
+pub struct Done {
+    pub number: u32,
+    pub held: Held,
 }
 
 pub fn no_points() -> Points

@@ -3,6 +3,7 @@
 use mathlib.Core.Path.{_≡_, refl, sym, _∙_}
 use mathlib.Core.Bool.{true}
 use mathlib.Core.List.{List}
+use mathlib.Core.Logic.{Iff·rfl}
 use Prim.Native.Nat.{ℕ, _≤_, _<_}
 use native.Mathlib.Omega.{arith}
 use lib.ListN.{length}
@@ -13,8 +14,9 @@ use Rattle.parameters.specs.declared.Params.{Params}
 use Rattle.encoding.specs.Encoding.{arePoints}
 use Rattle.passign.specs.Evaluate.{evaluateRefusalIn, evaluateRefusal, evaluateWritten}
 use Rattle.parameters.proofs.Lookup.{lookup-fitting}
-use Rattle.passign.proofs.Evaluating.{lookup-evaluable, points-below}
-use Rattle.passign.proofs.Answering.{refused, kept, passed, passed-equal}
+use Rattle.layout.proofs.Evaluating.{lookup-evaluable, points-below}
+use Rattle.answers.proofs.Refusal.{step}
+use Rattle.answers.proofs.Answering.{refused, kept, passed-equal}
 use Rattle.passign.proofs.evaluation.evaluate.Statement.{statement}
 use Rattle.passign.proofs.evaluation.evaluate.Tie as tie
 
@@ -26,7 +28,7 @@ allowed p size points room e =
     let a = passed-equal size (p .n) _ _ e in
     let b = passed-equal (length points) (p .t) _ _ (a .1) in
     let d = passed-equal room (p .t) _ _ (b .1) in
-    (a .0, d .0 ∙ sym (b .0), passed (arePoints p points) _ _ (d .1) .0)
+    (a .0, d .0 ∙ sym (b .0), step (arePoints p points) _ Iff·rfl .0 (d .1) .0)
 
 returns : tie.Need-returns
 unfolding evaluateRefusal evaluateWritten

@@ -10,7 +10,7 @@ use lib.Seq.{length-take-le, take-at}
 use borrow.Author.Needs.{needs}
 use Rattle.polynomial.specs.Evaluation.{evaluation, evaluations}
 use Rattle.parameters.proofs.Lookup.{lookup-fitting}
-use Rattle.passign.proofs.Evaluating.{lookup-evaluable, points-below}
+use Rattle.layout.proofs.Evaluating.{lookup-evaluable, points-below}
 use Rattle.passign.proofs.keys.evaluations_of.Statement.{statement}
 use Rattle.passign.proofs.keys.evaluations_of.Tie as tie
 

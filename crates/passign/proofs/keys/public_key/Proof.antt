@@ -3,6 +3,7 @@
 use mathlib.Core.Path.{_≡_, refl, sym, ap, _∙_}
 use mathlib.Core.Bool.{true}
 use mathlib.Core.List.{List}
+use mathlib.Core.Logic.{Iff·rfl}
 use Prim.Native.Nat.{ℕ, _<_}
 use native.Mathlib.Omega.{arith}
 use lib.ListN.{length, getD}
@@ -13,7 +14,8 @@ use Rattle.parameters.specs.declared.Params.{Params}
 use Rattle.encoding.specs.Encoding.{secretKeySize, publicKeySize, arePoints, publicKey}
 use Rattle.passign.specs.Keys.{publicKeyRefusalIn, publicKeyRefusal, publicKeyIn, publicKeyWritten}
 use Rattle.parameters.proofs.Lookup.{lookup-fitting}
-use Rattle.passign.proofs.Answering.{refused, kept, passed, passed-equal}
+use Rattle.answers.proofs.Refusal.{step}
+use Rattle.answers.proofs.Answering.{refused, kept, passed-equal}
 use Rattle.passign.proofs.keys.public_key.Statement.{statement}
 use Rattle.passign.proofs.keys.public_key.Tie as tie
 
@@ -25,7 +27,7 @@ allowed p key points room e =
     let a = passed-equal (length key) (secretKeySize p) _ _ e in
     let b = passed-equal (length points) (p .t) _ _ (a .1) in
     let d = passed-equal room (publicKeySize p) _ _ (b .1) in
-    (a .0, b .0, d .0, passed (arePoints p points) _ _ (d .1) .0)
+    (a .0, b .0, d .0, step (arePoints p points) _ Iff·rfl .0 (d .1) .0)
 
 returns : tie.Need-returns
 unfolding publicKeyRefusal publicKeyWritten

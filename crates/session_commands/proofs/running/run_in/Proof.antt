@@ -3,7 +3,7 @@
 use borrow.Author.Needs.{needs}
 use Rattle.parameters.specs.Sound.{Fitting}
 use Rattle.parameters.proofs.Lookup.{lookup-fitting}
-use Rattle.session_commands.specs.Ran.{Loading}
+use Rattle.session_state.specs.Ran.{Loading}
 use Rattle.session_commands.proofs.ByByte.{ran-as}
 use Rattle.session_commands.proofs.running.run_in.Statement.{statement}
 use Rattle.session_commands.proofs.running.run_in.Tie as tie

@@ -1,0 +1,69 @@
+-- `point_of` meets its contract: the coefficients are read into the front of the array.
+-- Assumes nothing.
+use mathlib.Core.Path.{_≡_, sym, ap, ap₂, _∙_}
+use mathlib.Core.List.{List, map}
+use Prim.Native.Nat.{ℕ, _+_, _*_}
+use native.Mathlib.Omega.{arith}
+use lib.IntN.{pos}
+use lib.ListN.{length, drop, replicate, length-drop}
+use lib.Seq.{length-take-le, take-at}
+use borrow.Author.Needs.{needs}
+use Rattle.encoding.specs.Bytes.{numbers, signed16}
+use Rattle.encoding.specs.Encoding.{pointRead}
+use Rattle.encoding.proofs.Parts.{rest}
+use Rattle.entry_check.proofs.point_of.Statement.{statement}
+use Rattle.entry_check.proofs.point_of.Tie as tie
+
+mul-start : tie.Need-mul-start
+mul-start c = search needs
+
+add-start : tie.Need-add-start
+add-start c = search needs
+
+sub-read-signed-words : tie.Need-sub-read-signed-words
+sub-read-signed-words c = search needs
+
+part-read-signed-words-start : tie.Need-part-read-signed-words-start
+part-read-signed-words-start c = search needs
+
+part-read-signed-words-end : tie.Need-part-read-signed-words-end
+part-read-signed-words-end c = search needs
+
+array-borrow-prefix-out : tie.Need-array-borrow-prefix-out
+array-borrow-prefix-out c = search needs
+
+slice-aggregate-read-signed-words : tie.Need-slice-aggregate-read-signed-words
+slice-aggregate-read-signed-words c =
+    let s = c .before .before .before .before in
+    sym (length-take-le (s .args .p .n) (replicate 1153 (pos 0)) (s .pre .0 .size))
+
+read-signed-words-requires : tie.Need-read-signed-words-requires
+read-signed-words-requires c κs =
+    let s = c .before .before .before .before in
+    let start = 1 + 2 * s .args .p .b in
+    let e : length (drop start (s .args .signature .now)) ≡ 2 * s .args .p .n = omega (arith, length-drop start (s .args .signature .now), s .pre .1) in
+    ap length (rest (s .args .signature .now) start) ∙ e ∙ ap (λ (n : ℕ). 2 * n) (slice-aggregate-read-signed-words c)
+
+returns : tie.Need-returns
+unfolding pointRead
+returns c =
+    let s = c .before .before .before .before .before .before .args in
+    let n = s .p .n in
+    let w = c .before .read-signed-words in
+    let size = sym (slice-aggregate-read-signed-words (c .before .before)) in
+    take-at (w .last .1 .0) (drop n (replicate 1153 (pos 0))) n (w .kept .1 .0 ∙ size)
+    ∙ w .ensures ∙ ap₂ (λ (m : ℕ) (l : List ℕ). map signed16 (numbers 2 m l)) size (rest (s .signature .now) (1 + 2 * s .p .b))
+
+pub point-of-spec : {M : Type 1} → statement M
+point-of-spec =
+    tie.close
+    (tie.spec
+    mul-start
+    add-start
+    sub-read-signed-words
+    part-read-signed-words-start
+    part-read-signed-words-end
+    array-borrow-prefix-out
+    slice-aggregate-read-signed-words
+    read-signed-words-requires
+    returns)

@@ -1,0 +1,77 @@
+-- `read_secret_key` meets its contract: a call that is not refused has room for the coefficients, and the bytes are a key's.
+-- Assumes nothing.
+use mathlib.Core.Path.{_≡_, refl, sym, ap, _∙_}
+use mathlib.Core.Bool.{true}
+use mathlib.Core.List.{List, map}
+use mathlib.Core.Logic.{Iff·rfl}
+use Prim.Native.Nat.{ℕ, _+_}
+use native.Mathlib.Omega.{arith}
+use lib.ListN.{length, length-drop}
+use borrow.Author.Needs.{needs}
+use Rattle.algebra.specs.All.{all}
+use Rattle.parameters.specs.Sets.{setOf}
+use Rattle.encoding.specs.Encoding.{secretKeySize, isKeyByte, keyCoefficient, isKey, keyOf}
+use Rattle.answers.specs.Answer.{setByte}
+use Rattle.entry_codec.specs.Codec.{readSecretKeyRefusal, readSecretKeyWritten}
+use Rattle.answers.proofs.Refusal.{step}
+use Rattle.answers.proofs.Answering.{refused, kept, passed-equal, in-set-of}
+use Rattle.encoding.proofs.Parts.{rest}
+use Rattle.entry_codec.proofs.read_secret_key.Statement.{statement}
+use Rattle.entry_codec.proofs.read_secret_key.Tie as tie
+
+allowed : (xs : List ℕ) (room : ℕ) → readSecretKeyRefusal xs room ≡ 0 → (length xs ≡ 1 + room) × (isKey xs ≡ true)
+unfolding readSecretKeyRefusal
+allowed xs room e =
+    let p = setOf (setByte xs) in
+    let a = passed-equal (length xs) (secretKeySize p) _ _ (in-set-of xs _ e) in
+    let b = passed-equal room (p .n) _ _ (a .1) in
+    (omega (arith, a .0, b .0), step (isKey xs) _ Iff·rfl .0 (b .1) .0)
+
+read-secret-key-refusal-requires : tie.Need-read-secret-key-refusal-requires
+read-secret-key-refusal-requires c κs = search needs
+
+returns : tie.Need-returns
+unfolding readSecretKeyWritten
+returns c = rw (← c .before .read-secret-key-refusal .ensures) (refused _ (c .if1 .taken), kept _ _ _ (c .if1 .taken))
+
+sub-read-coefficients : tie.Need-sub-read-coefficients
+sub-read-coefficients c =
+    let a = c .before .before .before .args in
+    omega (arith, allowed (a .bytes .now) (length (a .out .now)) (sym (c .before .read-secret-key-refusal .ensures) ∙ c .if1 .left) .0)
+
+part-read-coefficients-start : tie.Need-part-read-coefficients-start
+part-read-coefficients-start c = sub-read-coefficients c
+
+part-read-coefficients-end : tie.Need-part-read-coefficients-end
+part-read-coefficients-end c = search needs
+
+read-coefficients-requires : tie.Need-read-coefficients-requires
+unfolding isKey
+read-coefficients-requires c κs =
+    let a = c .before .before .before .before .before .args in
+    let k = allowed (a .bytes .now) (length (a .out .now)) (sym (c .before .before .before .read-secret-key-refusal .ensures) ∙ c .before .before .if1 .left) in
+    let l = length-drop 1 (a .bytes .now) in
+    let r = ap length (rest (a .bytes .now) 1) in
+    (omega (arith, k .0), ap (all isKeyByte) (rest (a .bytes .now) 1) ∙ k .1)
+
+same-length : tie.Need-same-length
+same-length c = search needs
+
+returns-2 : tie.Need-returns-2
+unfolding readSecretKeyWritten keyOf
+returns-2 c =
+    rw (← c .before .before .before .before .before .read-secret-key-refusal .ensures, c .before .before .before .before .if1 .left)
+    (refl, c .before .read-coefficients .ensures ∙ ap (map keyCoefficient) (rest (c .before .before .before .before .before .before .before .args .bytes .now) 1))
+
+pub read-secret-key-spec : {M : Type 1} → statement M
+read-secret-key-spec =
+    tie.close
+    (tie.spec
+    read-secret-key-refusal-requires
+    returns
+    sub-read-coefficients
+    part-read-coefficients-start
+    part-read-coefficients-end
+    read-coefficients-requires
+    same-length
+    returns-2)

@@ -1,0 +1,46 @@
+-- A signing is not refused, before its masks are tried, exactly when it has passed each of its tests.
+-- Assumes nothing.
+use mathlib.Core.Path.{_≡_}
+use mathlib.Core.Bool.{true}
+use mathlib.Core.List.{List}
+use mathlib.Core.Logic.{_↔_}
+use Prim.Native.Nat.{ℕ}
+use lib.Dec.{eqb}
+use lib.IntN.{ℤ}
+use lib.ListN.{length}
+use Rattle.parameters.specs.declared.Params.{Params}
+use Rattle.polynomial.specs.Polynomial.{within}
+use Rattle.encoding.specs.Encoding.{secretKeySize, signatureSize, isKey, arePoints}
+use Rattle.entry_sign.specs.Sign.{areMasks, signRefusalIn}
+use Rattle.answers.proofs.Refusal.{step, end, equal-iff}
+
+module _ (p : Params) (key points : List ℕ) (masks : List ℤ) (room : ℕ) where
+  -- a signing is not refused before its masks are tried
+  pub record SignAllowed : Type 0 where
+    pub key-size : length key ≡ secretKeySize p
+    pub points-size : length points ≡ p .t
+    pub masks-size : areMasks p masks ≡ true
+    pub room-size : room ≡ signatureSize p
+    pub points-rise : arePoints p points ≡ true
+    pub ternary : isKey key ≡ true
+    pub small : within (p .k) masks ≡ true
+
+  pub sign-allowed : (signRefusalIn p key points masks room ≡ 0) ↔ SignAllowed
+  unfolding signRefusalIn
+  sign-allowed =
+      let tests = step (eqb (length key) (secretKeySize p)) 0 (step (eqb (length points) (p .t)) 0 (step (areMasks p masks) 0 (step (eqb room (signatureSize p)) 0
+      (step (arePoints p points) 3 (step (isKey key) 4 (step (within (p .k) masks) 5 end)))))) in (
+        λ e.
+            let h = tests .0 e in
+            record {
+              key-size = equal-iff .0 (h .0);
+              points-size = equal-iff .0 (h .1 .0);
+              masks-size = h .1 .1 .0;
+              room-size = equal-iff .0 (h .1 .1 .1 .0);
+              points-rise = h .1 .1 .1 .1 .0;
+              ternary = h .1 .1 .1 .1 .1 .0;
+              small = h .1 .1 .1 .1 .1 .1 .0;
+            },
+        λ a. tests .1
+            (equal-iff .1 (a .key-size), (equal-iff .1 (a .points-size), (a .masks-size, (equal-iff .1 (a .room-size), (a .points-rise, (a .ternary, (a .small, tt))))))),
+      )

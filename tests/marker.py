@@ -1,0 +1,80 @@
+"""examples/marker.c, built plain and under the address and undefined-behaviour sanitizers, on good, damaged and wrong-set files: its row,
+its exit status and its refusal number must be what the reference says."""
+
+import subprocess
+from pathlib import Path
+from random import Random
+from tempfile import TemporaryDirectory
+
+import material
+from damages import put
+from reference import encodings
+from reference.library import check
+from reference.parameters import SETS
+from reference.polynomials import evaluations
+
+SANITIZERS = "-fsanitize=address,undefined"
+
+
+def build(repository, folder, *flags):
+    program = Path(folder) / f"marker{''.join(flags)}"
+    subprocess.run(["cc", "-O1", "-Wall", "-Wextra", "-Werror", *flags, f"-I{repository}/include", f"{repository}/examples/marker.c",
+                    f"{repository}/target/staticlib/libpassign_c.a", "-o", program], check=True)
+    return program
+
+
+def good(rng, s):
+    f, at, text = material.key(rng, s), material.points(rng, s), rng.randbytes(rng.choice((0, 1, 64, 111, 112, 5000)))
+    public = encodings.write_public_key(s, at, evaluations(s, f, at))
+    return public, text, material.signature(rng, s, f, at, text)
+
+
+def cases(seed):
+    """Name, public key, message and signature."""
+    for s in SETS:
+        rng = Random(f"{seed} marker of set {s.number}")
+        key, text, signature = good(rng, s)
+        other = good(rng, SETS[(s.number + 1) % 5])
+        yield f"{s.number} good", key, text, signature
+        yield f"{s.number} another message", key, text + b"x", signature
+        yield f"{s.number} last coefficient", key, text, put(signature, len(signature) - 1, signature[-1] ^ 1)
+        yield f"{s.number} another set's signature", key, text, other[2]
+        yield f"{s.number} another set's key", other[0], text, signature
+        yield f"{s.number} no set", put(key, 0, 5), text, signature
+        yield f"{s.number} exponent 0", put(put(key, 1, 0), 2, 0), text, signature
+        yield f"{s.number} evaluation above q", put(key, len(key) - 3, 255), text, signature
+        yield f"{s.number} index above N", key, text, put(signature, 1, 0x7F)
+        yield f"{s.number} cut signature", key, text, signature[:-1]
+        yield f"{s.number} empty key", b"", text, signature
+        yield f"{s.number} empty signature", key, text, b""
+        yield f"{s.number} long message", key, bytes(65536), signature
+
+
+def wanted(key, text, signature):
+    """Row, exit status and refusal number."""
+    answer = check(key, text, signature)
+    return {256: ("yes\n", 0, None), 0: ("no\n", 1, None)}.get(answer, ("", 2, answer))
+
+
+def run(seed, repository):
+    """True when all agree."""
+    seen = set()
+    with TemporaryDirectory() as folder:
+        programs = [build(repository, folder), build(repository, folder, SANITIZERS)]
+        names = [Path(folder) / name for name in ("public_key", "message", "signature")]
+        for name, *contents in cases(seed):
+            for path, content in zip(names, contents):
+                path.write_bytes(content)
+            row, status, number = wanted(*contents)
+            seen.add(number if status == 2 else row)
+            for program in programs:
+                done = subprocess.run([program, *names], text=True, stdout=subprocess.PIPE, stderr=subprocess.PIPE)
+                said = f"refused with {number}:" in done.stderr if status == 2 else done.stderr == ""
+                if (done.stdout, done.returncode, said) != (row, status, True):
+                    print(f"marker: DIFFERENCE in '{name}': row {done.stdout!r}, status {done.returncode}, {done.stderr!r}; "
+                          f"reference {row!r}, {status}, {number}; seed {seed}")
+                    return False
+        unread = [subprocess.run([program, *names[:2], "no such file"], stderr=subprocess.DEVNULL).returncode for program in programs]
+    complete = seen == {"yes\n", "no\n", 1, 2, 4, 7, 12} and unread == [2, 2]
+    print(f"marker: {len(list(cases(seed)))} cases agree with the reference, plain and under {SANITIZERS[11:]}{'' if complete else ': NOT ALL ANSWERS SEEN'}")
+    return complete
