@@ -83,6 +83,16 @@ static uint32_t load_key(struct held *h, const uint8_t *operand, uint8_t **at)
     return 0;
 }
 
+static uint32_t load_evaluations(struct held *h, const uint8_t *operand)
+{
+    for (size_t i = 0; i < h->set->t; i++)
+        if ((uint32_t)(operand[3 * i] << 16 | operand[3 * i + 1] << 8 | operand[3 * i + 2]) >= h->set->q)
+            return 7;
+    memcpy(h->public_key + 1 + 2 * h->set->t, operand, 3 * h->set->t);
+    h->evaluations_held = 1, h->key_held = 0;
+    return 0;
+}
+
 static uint32_t load_mask(struct held *h, const uint8_t *operand)
 {
     int16_t *mask = h->mask[h->masks];
@@ -147,6 +157,7 @@ void plain_play(const uint8_t *file, size_t size, uint8_t *rows)
         case 4: number = load_mask(&h, operand); break;
         case 5: memcpy(h.message, operand, 64), h.message_held = 1; break;
         case 6: number = h.key_held && h.message_held ? sign(&h, &at) : 10; break;
+        case 8: number = h.points_held ? load_evaluations(&h, operand) : 10; break;
         case 7: h.evaluations_held && h.message_held ? check(&h, operand, &at) : (void)(number = 10); break;
         }
         place += operand_size(h.set, command);

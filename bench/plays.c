@@ -4,7 +4,7 @@
 
 void bench_play(const uint8_t *file, size_t size, uint8_t *rows, size_t room);
 
-enum { STATE = 26640 };
+enum { STATE = 26630 }; /* a Session, as the compiler copies it */
 
 static uint8_t rows[16384], copies[2][STATE];
 

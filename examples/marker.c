@@ -1,6 +1,6 @@
 /* A marker: checks the signature in one file against the public key and the message in two others, and prints one row for the register,
    "yes" or "no", ended by a line feed. A refusal prints no row.
-   Exit status: 0 yes, 1 no, 2 refused or not readable, with the reason on standard error. */
+   Exit status: 0 yes, 1 no, 2 refused, not readable or not written, with the reason on standard error. */
 #include "passign.h"
 #include <stdio.h>
 #include <stdlib.h>
@@ -28,7 +28,7 @@ static void read_file(struct input *in, const char *name)
 static const char *meaning(uint32_t refusal)
 {
     switch (refusal) {
-    case 1: return "a file is empty or of the wrong length for its set, or the message has more than 65,535 bytes";
+    case 1: return "the public key or the signature is empty or not of its set's length, or the message has more than 65,535 bytes";
     case 2: return "the key's first byte is no set 0 to 4, or the signature's is another set";
     case 4: return "the public key's exponents are not strictly increasing in 1..N-1";
     case 7: return "an evaluation of the public key is not below q";
@@ -48,7 +48,10 @@ int main(int argc, char **argv)
     read_file(&signature, argv[3]);
     uint32_t answer = passign_check(key.bytes, key.length, message.bytes, message.length, signature.bytes, signature.length);
     if (answer == 256 || answer == 0) {
-        puts(answer == 256 ? "yes" : "no");
+        if (puts(answer == 256 ? "yes" : "no") == EOF || fflush(stdout) != 0) {
+            fprintf(stderr, "marker: cannot write the row: see to standard output, and mark again\n");
+            return 2;
+        }
         return answer == 256 ? 0 : 1;
     }
     fprintf(stderr, "marker: refused with %u: %s\n", (unsigned)answer, meaning(answer));

@@ -7,7 +7,17 @@
      9 no mask, or none passes                            11 pool spent
     12 challenge index not below N, or not increasing
 
-   A slice is a pointer and its length in elements; the pointer is not null, also where the length is 0.
+   A slice is a pointer and its length in elements. The pointer is not null, also where the length is 0, is aligned for its elements, and all of
+   the slice may be read, or written for a result; a result buffer overlaps no other slice. Nothing checks these. The archive is for x86-64.
+
+   Encodings, numbers of several bytes with the high byte first:
+     secret key   the set, then N bytes: 00, 01, or FF for -1
+     public key   the set, t exponents of two bytes, t evaluations of three bytes
+     signature    the set, b challenge entries of two bytes (the index in the low 15 bits, top bit 1 for -1), N coefficients of z in two bytes,
+                  two's complement
+   A session's rows and operands have them without the set byte in 03, 07 and 08, and with it in the row of 06.
+
+   Set 0 is for work by hand: about one wrong message in forty gets a yes there. Do not mark with it.
 
      set   N     q        k      b   t    secret key  public key  signature (bytes)
      0     5     31       6      2   2    6           11          15
@@ -29,8 +39,8 @@ extern "C" {
 uint32_t passign_check(const uint8_t *public_key, size_t public_key_length, const uint8_t *message, size_t message_length,
                        const uint8_t *signature, size_t signature_length);
 
-/* Signs with the first of up to eight masks that passes, N numbers each, one after the other: 256 plus the number of masks passed over,
-   else the refusal number (1, 2, 4, 5, 6, 9). */
+/* Signs at t points with the first of 0 to 8 masks that passes, N numbers each, one after the other (masks_length is N times their number): 256 plus the
+   number of masks passed over, else the refusal number (1, 2, 4, 5, 6, 9). */
 uint32_t passign_sign(const uint8_t *secret_key, size_t secret_key_length, const uint16_t *points, size_t points_length,
                       const int16_t *masks, size_t masks_length, const uint8_t *message, size_t message_length,
                       uint8_t *signature, size_t signature_length);

@@ -10,7 +10,7 @@ def run(repository, player):
     files = sorted((repository / "examples/sessions").glob("*.session"))
     for file in files:
         stored = file.with_suffix(".rows").read_bytes()
-        printed = subprocess.run([player, file], stdout=subprocess.PIPE).stdout if player else stored
+        printed = subprocess.run([player, file], stdout=subprocess.PIPE, check=True).stdout if player else stored
         for who, rows in (("bin/play", printed), ("the reference", play_to_the_end(file.read_bytes()))):
             if rows != stored:
                 print(f"examples: DIFFERENCE: {who} does not give {file.with_suffix('.rows').name}; if the session was changed, run tests/make_examples.py")

@@ -1,6 +1,10 @@
 #!/usr/bin/env python3
-"""Writes examples/sessions: document 01's session, and for each set one in which a mask is passed over, a signature is accepted and the
-check says yes. Each file NAME.session has its rows beside it, NAME.rows, as the reference plays it. The same bytes each time."""
+"""Writes examples/: the same bytes each time.
+
+sessions/: document 01's session, and for each set one in which a mask is passed over, a signature is accepted and the check says yes. Each
+NAME.session has its rows beside it, NAME.rows, as the reference plays it.
+marker/: a public key, a message and a signature of set 1 that the check says yes to.
+"""
 
 import sys
 from pathlib import Path
@@ -15,8 +19,7 @@ import sessions  # noqa: E402
 from reference import encodings  # noqa: E402
 from reference.parameters import SETS  # noqa: E402
 from reference.session import play_to_the_end  # noqa: E402
-
-DOCUMENT = "50534731 0100 0200010002 0301FF000100 0400030004FFFA00020000 0400070000000000000000 06 00"
+from reference.test_document import TRANSCRIPT_FILE  # noqa: E402
 
 
 def signed_and_checked(s):
@@ -31,12 +34,22 @@ def signed_and_checked(s):
 
 
 def examples():
-    yield "document", bytes.fromhex(DOCUMENT.replace(" ", ""))
+    yield "document", TRANSCRIPT_FILE
     for s in SETS:
         yield f"set-{s.number}", signed_and_checked(s)
 
 
+def for_the_marker(s):
+    rng = Random(f"example of the marker in set {s.number}")
+    f, at, text = material.key(rng, s), material.points(rng, s), b"Unit four, exercise 17\n"
+    yield "public_key", material.public_key(s, f, at)
+    yield "message", text
+    yield "signature", material.signature(rng, s, f, at, text)
+
+
 def main():
+    for name, content in for_the_marker(SETS[1]):
+        (TESTS.parent / "examples/marker" / name).write_bytes(content)
     folder = TESTS.parent / "examples/sessions"
     folder.mkdir(parents=True, exist_ok=True)
     for name, file in examples():

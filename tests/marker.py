@@ -8,25 +8,22 @@ from tempfile import TemporaryDirectory
 
 import material
 from damages import put
-from reference import encodings
 from reference.library import check
 from reference.parameters import SETS
-from reference.polynomials import evaluations
 
 SANITIZERS = "-fsanitize=address,undefined"
 
 
 def build(repository, folder, *flags):
     program = Path(folder) / f"marker{''.join(flags)}"
-    subprocess.run(["cc", "-O1", "-Wall", "-Wextra", "-Werror", *flags, f"-I{repository}/include", f"{repository}/examples/marker.c",
+    subprocess.run(["cc", "-O1", "-Wall", "-Wextra", "-Werror", "-fno-sanitize-recover=all", *flags, f"-I{repository}/include", f"{repository}/examples/marker.c",
                     f"{repository}/target/staticlib/libpassign_c.a", "-o", program], check=True)
     return program
 
 
 def good(rng, s):
     f, at, text = material.key(rng, s), material.points(rng, s), rng.randbytes(rng.choice((0, 1, 64, 111, 112, 5000)))
-    public = encodings.write_public_key(s, at, evaluations(s, f, at))
-    return public, text, material.signature(rng, s, f, at, text)
+    return material.public_key(s, f, at), text, material.signature(rng, s, f, at, text)
 
 
 def cases(seed):
@@ -56,6 +53,10 @@ def wanted(key, text, signature):
     return {256: ("yes\n", 0, None), 0: ("no\n", 1, None)}.get(answer, ("", 2, answer))
 
 
+def status_of(program, names, out=subprocess.DEVNULL):
+    return subprocess.run([program, *names], stdout=out, stderr=subprocess.DEVNULL).returncode
+
+
 def run(seed, repository):
     """True when all agree."""
     seen = set()
@@ -69,12 +70,19 @@ def run(seed, repository):
             seen.add(number if status == 2 else row)
             for program in programs:
                 done = subprocess.run([program, *names], text=True, stdout=subprocess.PIPE, stderr=subprocess.PIPE)
-                said = f"refused with {number}:" in done.stderr if status == 2 else done.stderr == ""
+                said = done.stderr.startswith(f"marker: refused with {number}: ") if status == 2 else done.stderr == ""
+                said &= done.stderr.count("\n") == (status == 2) and "not a refusal" not in done.stderr
                 if (done.stdout, done.returncode, said) != (row, status, True):
                     print(f"marker: DIFFERENCE in '{name}': row {done.stdout!r}, status {done.returncode}, {done.stderr!r}; "
                           f"reference {row!r}, {status}, {number}; seed {seed}")
                     return False
-        unread = [subprocess.run([program, *names[:2], "no such file"], stderr=subprocess.DEVNULL).returncode for program in programs]
-    complete = seen == {"yes\n", "no\n", 1, 2, 4, 7, 12} and unread == [2, 2]
+        example = [repository / "examples/marker" / name.name for name in names]
+        for program in programs:
+            with open("/dev/full", "w") as full:
+                ends = [status_of(program, example), status_of(program, [*example[:2], "no such file"]), status_of(program, example, full)]
+            if ends != [0, 2, 2]:
+                print(f"marker: DIFFERENCE: exit statuses {ends} for the example, an unreadable file and a full disk, not 0, 2, 2")
+                return False
+    complete = seen == {"yes\n", "no\n", 1, 2, 4, 7, 12}
     print(f"marker: {len(list(cases(seed)))} cases agree with the reference, plain and under {SANITIZERS[11:]}{'' if complete else ': NOT ALL ANSWERS SEEN'}")
     return complete

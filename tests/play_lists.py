@@ -69,7 +69,8 @@ def run(seed, program):
         wanted = answered(files, plays)
         printed = wanted
         if program:
-            printed = subprocess.run([program], input=encoded(files, plays), stdout=subprocess.PIPE).stdout.decode().lower().splitlines()
+            done = subprocess.run([program], input=encoded(files, plays), stdout=subprocess.PIPE, check=True)
+            printed = done.stdout.decode().lower().splitlines()
         if printed != wanted:
             differs = next(i for i, pair in enumerate(zip(printed + [""], wanted + [""])) if pair[0] != pair[1])
             print(f"lists of plays: DIFFERENCE in list {at}, play {differs}: {(printed + [''])[differs][:60]!r}, reference {(wanted + [''])[differs][:60]!r}, seed {seed}")

@@ -1,15 +1,11 @@
 // Functions of the inner crates for C, for bench/ alone. The kit's own entries for C are those of passign_c.
 ghost use mathlib.Core.Path.{_≡_};
 ghost use mathlib.Core.List.{_++_};
-ghost use Prim.Native.Nat.{ℕ, _<_, _≤_};
+ghost use Prim.Native.Nat.{_≤_};
 ghost use lib.Dec.{T};
-ghost use lib.ListN.{length, getD};
-ghost use Rattle.parameters.specs.Sets.{setOf};
-ghost use Rattle.polynomial.specs.Evaluation.{evaluations};
+ghost use lib.ListN.{length};
 ghost use Rattle.polynomial.specs.Polynomial.{point, ternary};
 ghost use Rattle.sha512.specs.Digest.{SHA-512};
-use parameters::params_of;
-use parameters::powers_of;
 
 #[no_mangle]
 pub extern "C" fn bench_sha512(message: &[u8], out: &mut [u8; 64])
@@ -25,17 +21,6 @@ pub extern "C" fn bench_sha512_of_two(first: &[u8], second: &[u8], out: &mut [u8
 {
     let d = sha512::sha512_of_two(first, second);
     *out = d;
-}
-
-#[no_mangle]
-pub extern "C" fn bench_evaluate(set: u8, coefficients: &[i16], points: &[u16], out: &mut [u32])
-    requires { ⌜ (set < 5) × (length (now coefficients) ≡ setOf set .n) × (length (now out) ≡ length (now points)) × ((i : ℕ) → i < length (now points) → getD (now points) i 0 < setOf set .n) ⌝ }
-    ensures { λ _. ⌜ now (out .exit) ≡ evaluations (setOf set) (now (coefficients .entry)) (now (points .entry)) ⌝ }
-{
-    let p = params_of(set);
-    let n = p.n;
-    let table = powers_of(set);
-    polynomial::evaluation::evaluate(p, &table[..n], coefficients, points, out);
 }
 
 #[no_mangle]

@@ -8,7 +8,7 @@ use lib.IntN.{ℤ}
 use Rattle.scheme.specs.Hiding.{ExactlyOne}
 use Rattle.passign.specs.Hiding.{Each, Each₃}
 use Rattle.session_rules.specs.Play.{opened}
-use Rattle.session_rules.specs.Plays.{Event, Signing06, signings, OtherKey, Same, SaysYes}
+use Rattle.session_rules.specs.Plays.{Event, signings, OtherKey, Same, SaysYes}
 use Rattle.session_rules.proofs.HidingOfSessions.{hiding-of-sessions}
 use Rattle.session.specs.declared.Session as code
 use Rattle.session.specs.Session.{sessionOf}

@@ -6,7 +6,7 @@ use Prim.Native.Nat.{ℕ}
 use Rattle.session_rules.specs.Play.{Session, Outcome, opened}
 use Rattle.session_rules.specs.Plays.{Event, eventOf, eventsFrom, events}
 use Rattle.session.specs.declared.Session as code
-use Rattle.session.specs.Session.{sessionOf, outcomeOf}
+use Rattle.session.specs.Session.{sessionOf}
 use Rattle.session.specs.Turns.{Turn, Turns, turnEvents}
 
 abbrev pub lentBy : List Turn → List (List ℕ)

@@ -1,6 +1,6 @@
 -- A command by its byte: which definition it has, and how many bytes its operand.
 -- Assumes nothing.
-use mathlib.Core.Path.{_≡_, refl, sym}
+use mathlib.Core.Path.{_≡_, refl}
 use mathlib.Core.Bool.{false, _&&_}
 use mathlib.Core.List.{List}
 use mathlib.Core.Option.{Option, none, some}
@@ -11,7 +11,7 @@ use borrow.Author.Tests.{lt-ltb, ne-eqb, ltb-false, le-leb}
 use Rattle.parameters.specs.declared.Params.{Params}
 use Rattle.parameters.specs.Sets.{setOf}
 use Rattle.session_rules.specs.Held.{Chosen, Held}
-use Rattle.session_rules.specs.Commands.{Done, nothing, needsSet, operandSizeIn, operandSize, chooseSet, commandIn, command}
+use Rattle.session_rules.specs.Commands.{Done, needsSet, operandSizeIn, operandSize, chooseSet, commandIn, command}
 use Rattle.session_rules.specs.Play.{lacksSet}
 use Rattle.session_rules.specs.Rows.{rowText, atFront}
 use Rattle.session_state.specs.declared.Held as state

@@ -10,15 +10,15 @@ ghost use Rattle.session_state.specs.State.{chosenIn, setHeld, heldIn, heldOf};
 ghost use Rattle.session_state.specs.Ran.{InSet, Loading, doneIn, Ran};
 use parameters::Params;
 use parameters::params_of;
-use session_library::checking::check_held;
-use session_library::key::load_key;
-use session_library::signing::sign_held;
+use session_checking::check_held;
 use session_loading::choose_set;
+use session_loading::key::load_key;
 use session_loading::load_evaluations;
 use session_loading::load_mask;
 use session_loading::load_message;
 use session_loading::load_points;
 use session_rows::write_plain;
+use session_signing::sign_held;
 use session_state::Done;
 use session_state::Held;
 

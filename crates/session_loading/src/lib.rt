@@ -1,4 +1,4 @@
-// The commands that load: 01 a set, 02 points, 04 a mask, 05 a message, 08 public evaluations. Their rows add nothing.
+// The commands that load: here 01 a set, 02 points, 04 a mask, 05 a message and 08 public evaluations, whose rows add nothing; 03 in `key`.
 ghost use mathlib.Core.Path.{_≡_};
 ghost use Prim.Native.Nat.{_*_};
 ghost use lib.ListN.{length};
@@ -24,6 +24,8 @@ use session_state::no_evaluations;
 use session_state::no_key;
 use session_state::only_set;
 use signer::masks_within;
+
+pub mod key;
 
 // 01. Forgets all else held.
 pub fn choose_set(h: Held, operand: &[u8]) -> Done

@@ -109,8 +109,8 @@ pub fn write_plain(rows: &mut [u8], ordinal: u32, byte: u8, number: u32)
     requires { ⌜ length (now rows) ≡ 16384 ⌝ }
     ensures { λ _. ⌜ now (rows .exit) ≡ atFront (rowText ordinal byte number nothing) (now (rows .entry)) ⌝ }
 {
-    let next = put_head(rows, ordinal, byte, number);
-    put(rows, next, LINE_FEED);
+    let end = put_head(rows, ordinal, byte, number);
+    put(rows, end, LINE_FEED);
 }
 
 // A row that adds a list of numbers.

@@ -3,7 +3,7 @@
 use mathlib.Core.Path.{_≡_, refl, sym, ap, _∙_}
 use mathlib.Core.Bool.{true, false}
 use mathlib.Core.List.{List, [], _∷_, _++_, map}
-use Prim.Native.Nat.{ℕ, zero, suc, _*_, _≤_, _<_}
+use Prim.Native.Nat.{ℕ, _*_, _≤_, _<_}
 use lib.Dec.{leb}
 use lib.IntN.{ℤ, pos}
 use lib.ListN.{length, drop, replicate, length-map}
@@ -12,7 +12,7 @@ use borrow.Author.Needs.{needs}
 use borrow.Author.Tests.{lt-ltb, le-ltb, lt-leb, not-true, not-false}
 use Rattle.parameters.specs.declared.Params.{Params}
 use Rattle.polynomial.specs.Polynomial.{within}
-use Rattle.encoding.specs.Bytes.{parts, numbers, signed16}
+use Rattle.encoding.specs.Bytes.{numbers, signed16}
 use Rattle.encoding.proofs.Parts.{length-numbers, length-parts}
 use Rattle.session_rules.specs.Commands.{nothing, maskOf, loadMask}
 use Rattle.session_state.specs.declared.Masks.{Masks}

@@ -1,8 +1,7 @@
 -- `running::load` meets its contract: each byte has its command.
 -- Assumes nothing.
-use mathlib.Core.Path.{_≡_, _∙_}
+use mathlib.Core.Path.{_≡_}
 use native.Mathlib.Omega.{arith}
-use borrow.Author.Tests.{ne-eqb}
 use Rattle.session_commands.proofs.running.load.Statement.{statement}
 use Rattle.session_commands.proofs.running.load.Tie as tie
 

@@ -1,0 +1,14 @@
+-- `can_check` meets its contract: the test of the points, and two flags.
+-- Assumes nothing.
+use borrow.Author.Needs.{needs}
+use Rattle.session_checking.proofs.can_check.Statement.{statement}
+use Rattle.session_checking.proofs.can_check.Tie as tie
+
+has-points-requires : tie.Need-has-points-requires
+has-points-requires c κs = search needs
+
+returns : tie.Need-returns
+returns c = rw (c .before .before .has-points .ensures)
+
+pub can-check-spec : {M : Type 1} → statement M
+can-check-spec = tie.close (tie.spec has-points-requires returns)

@@ -1,0 +1,136 @@
+-- `check_held` meets its contract: 10 where something lacks, else the row of the library's verdict.
+-- Assumes nothing.
+use mathlib.Core.Path.{_≡_, refl, sym, _∙_}
+use mathlib.Core.Bool.{true, false, _&&_}
+use mathlib.Core.List.{List, _∷_}
+use Prim.Native.Nat.{ℕ}
+use lib.ListN.{take}
+use borrow.Author.Needs.{needs}
+use borrow.Author.Tests.{not-true, not-false}
+use Rattle.parameters.specs.declared.Params.{Params}
+use Rattle.encoding.specs.Encoding.{publicKey}
+use Rattle.answers.specs.declared.Verdict.{Verdict}
+use Rattle.entry_check.specs.Check.{checkAnswer}
+use Rattle.session_rules.specs.Commands.{Done, refused, afterCheck, check}
+use Rattle.session_state.specs.declared.Held.{Held}
+use Rattle.session_state.specs.State.{hasPoints, chosenIn, heldIn}
+use Rattle.session_state.proofs.Needing.{all-held, one-lacks}
+use Rattle.session_checking.proofs.check_held.Statement.{statement}
+use Rattle.session_checking.proofs.check_held.Tie as tie
+
+-- what command 07 does, by what is held
+module _ (p : Params) (h : Held) (op : List ℕ) where
+  abbrev judgedWith : List ℕ → List ℕ → List ℕ → Done
+  judgedWith points vs message = afterCheck (chosenIn p (h .set)) (heldIn p h) (checkAnswer (publicKey (h .set) points vs) message (h .set ∷ op))
+
+  abbrev points : List ℕ
+  points = take (p .t) (h .points .list)
+
+  abbrev vs : List ℕ
+  vs = take (p .t) (h .evaluations .list)
+
+  lacking : hasPoints p (h .points) && (h .evaluations .held && h .message .held) ≡ false
+      → check (chosenIn p (h .set)) (heldIn p h) op ≡ refused 10 (heldIn p h)
+  unfolding check heldIn
+  lacking e = one-lacks points vs (h .message .bytes) (heldIn p h) judgedWith (hasPoints p (h .points)) (h .evaluations .held) (h .message .held) e
+
+  judged : {v : Verdict}
+      → hasPoints p (h .points) && (h .evaluations .held && h .message .held) ≡ true
+      → v ≡ checkAnswer (publicKey (h .set) points vs) (h .message .bytes) (h .set ∷ op)
+      → check (chosenIn p (h .set)) (heldIn p h) op ≡ afterCheck (chosenIn p (h .set)) (heldIn p h) v
+  unfolding check heldIn
+  judged e v = rw v (all-held points vs (h .message .bytes) (heldIn p h) judgedWith (hasPoints p (h .points)) (h .evaluations .held) (h .message .held) e)
+
+can-check-requires : tie.Need-can-check-requires
+can-check-requires c κs = search needs
+
+write-plain-requires : tie.Need-write-plain-requires
+write-plain-requires c κs = search needs
+
+same-length : tie.Need-same-length
+same-length c = search needs
+
+returns : tie.Need-returns
+returns c =
+    let k = c .before .before .before .before .before in
+    let a = k .before .before .before .args in
+    rw (lacking (a .p) (a .h) (a .operand .now) (sym (k .can-check .ensures) ∙ not-true _ (c .before .before .before .before .if1 .taken)))
+    (record { number = refl; held = refl; row = c .before .before .write-plain .ensures }, refl)
+
+judge-requires : tie.Need-judge-requires
+judge-requires c κs = search needs
+
+enum-told : tie.Need-enum-told
+enum-told c = search needs
+
+write-judged-requires : tie.Need-write-judged-requires
+write-judged-requires c κs = search needs
+
+enum-told-2 : tie.Need-enum-told-2
+enum-told-2 c = search needs
+
+write-judged-requires-2 : tie.Need-write-judged-requires-2
+write-judged-requires-2 c κs = search needs
+
+enum-known-verdict : tie.Need-enum-known-verdict
+enum-known-verdict c = search needs
+
+write-plain-requires-2 : tie.Need-write-plain-requires-2
+write-plain-requires-2 c κs = search needs
+
+-- the library's verdict v decides
+verdict-is : (c : tie.After-judge) {v : Verdict} → let a = c .before .before .before .before .before .args in
+    c .judge .result ≡ v → check (chosenIn (a .p) (a .h .set)) (heldIn (a .p) (a .h)) (a .operand .now) ≡ afterCheck (chosenIn (a .p) (a .h .set)) (heldIn (a .p) (a .h)) v
+verdict-is c told =
+    let k = c .before .before in
+    let a = k .before .before .before .args in
+    judged (a .p) (a .h) (a .operand .now) (sym (k .can-check .ensures) ∙ not-false _ (c .before .if1 .left)) (sym told ∙ c .judge .ensures)
+
+same-length-2 : tie.Need-same-length-2
+same-length-2 c = search needs
+
+returns-2 : tie.Need-returns-2
+returns-2 c =
+    let told = c .before .before .before .before in
+    rw (verdict-is (told .before .before) (told .enum-told .given .1))
+    (record { number = refl; held = refl; row = c .before .before .write-judged .ensures }, refl)
+
+same-length-3 : tie.Need-same-length-3
+same-length-3 c = search needs
+
+returns-3 : tie.Need-returns-3
+returns-3 c =
+    let told = c .before .before .before .before in
+    rw (verdict-is (told .before .before) (told .enum-told2 .given .1))
+    (record { number = refl; held = refl; row = c .before .before .write-judged2 .ensures }, refl)
+
+same-length-4 : tie.Need-same-length-4
+same-length-4 c = search needs
+
+returns-4 : tie.Need-returns-4
+returns-4 c =
+    let told = c .before .before .before .before .before in
+    rw (verdict-is (told .before .before) (told .verdict .given .1))
+    (record { number = refl; held = refl; row = c .before .before .write-plain2 .ensures }, refl)
+
+pub check-held-spec : {M : Type 1} → statement M
+check-held-spec =
+    tie.close
+    (tie.spec
+    can-check-requires
+    write-plain-requires
+    same-length
+    returns
+    judge-requires
+    enum-told
+    write-judged-requires
+    enum-told-2
+    write-judged-requires-2
+    enum-known-verdict
+    write-plain-requires-2
+    same-length-2
+    returns-2
+    same-length-3
+    returns-3
+    same-length-4
+    returns-4)

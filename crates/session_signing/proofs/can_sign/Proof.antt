@@ -1,0 +1,14 @@
+-- `can_sign` meets its contract: the test of the points, and two flags.
+-- Assumes nothing.
+use borrow.Author.Needs.{needs}
+use Rattle.session_signing.proofs.can_sign.Statement.{statement}
+use Rattle.session_signing.proofs.can_sign.Tie as tie
+
+has-points-requires : tie.Need-has-points-requires
+has-points-requires c κs = search needs
+
+returns : tie.Need-returns
+returns c = rw (c .before .before .has-points .ensures)
+
+pub can-sign-spec : {M : Type 1} → statement M
+can-sign-spec = tie.close (tie.spec has-points-requires returns)
