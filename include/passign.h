@@ -1,6 +1,6 @@
 /* PASSign for C: link target/staticlib/libpassign_c.a, which `rt staticlib passign_c` builds.
 
-   Every function takes any input. What is not allowed is refused with a number below 256, and a refused call writes nothing:
+   Every function takes any contents and any lengths. What is not allowed is refused with a number below 256, and a refused call writes nothing:
      1 a wrong length, or a message above 65,535 bytes     2 set not 0..4, or sets that differ
      4 exponents out of 1..N-1 or not increasing           5 key value not allowed
      6 mask coefficient outside -k..k                      7 evaluation not below q
@@ -15,7 +15,6 @@
      public key   the set, t exponents of two bytes, t evaluations of three bytes
      signature    the set, b challenge entries of two bytes (the index in the low 15 bits, top bit 1 for -1), N coefficients of z in two bytes,
                   two's complement
-   A session's rows and operands have them without the set byte in 03, 07 and 08, and with it in the row of 06.
 
    Set 0 is for work by hand: about one wrong message in forty gets a yes there. Do not mark with it.
 

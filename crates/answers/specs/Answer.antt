@@ -1,4 +1,5 @@
--- Sets looked up before all else, messages too long, refusal numbers (0 for none), and document 01's number for each case of an answer.
+-- What the entries' definitions share: messages too long, the set of an encoding, refusal numbers (0 for none), and document 01's number for each case of
+-- an answer.
 -- Assumes nothing.
 use mathlib.Core.Bool.{Bool, not}
 use mathlib.Core.List.{List}

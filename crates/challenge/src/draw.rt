@@ -33,7 +33,7 @@ fn value_at(pool: &[u8], m: usize) -> usize
     wide(pool[at]) * 256 + wide(pool[at + 1])
 }
 
-// The challenge that a pool yields, or that the pool is spent. The pool needs no more than its signs: without b indices in it, it is spent.
+// The challenge that a pool yields, or that the pool is spent. A pool has at least the eight bytes of signs; with too few values behind them it is spent.
 pub fn draw_from(p: Params, pool: &[u8]) -> Drawn
     requires { ⌜ Fitting p ⌝ }
     requires { ⌜ 8 ≤ length (now pool) ⌝ }

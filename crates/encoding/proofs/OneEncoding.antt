@@ -169,3 +169,37 @@ challenge-read-back c h t = entries-inverse.coefficients-of-entries (length c) h
 -- entries that are accepted are those of their challenge
 pub entries-written-back : (n : ℕ) (es : List ℕ) → T (areEntries n es) → T (areBelow 65536 es) → entriesOf (challengeOf n es) ≡ es
 entries-written-back n es t b = entries-inverse.entries-of-coefficients n 0 n es (omega arith) t b
+
+-- ---- one meaning, one encoding
+
+-- bytes of a signature's size whose entries are allowed are what is written for their meaning: their challenge and their point
+pub signature-of-meaning : (p : Params) (xs : List ℕ) → length xs ≡ signatureSize p → T (areBelow 256 xs) → T (areEntries (p .n) (entriesRead p xs))
+    → signatureBytes (getD xs 0 0) (entriesOf (challengeOf (p .n) (entriesRead p xs))) (pointRead p xs) ≡ xs
+unfolding entriesRead
+signature-of-meaning p xs l t allowed =
+    let below : T (areBelow 65536 (entriesRead p xs)) = inverse.numbers-below 2 (p .b) (drop 1 xs) (omega (arith, length-drop 1 xs)) (inverse.all-drop (λ (y : ℕ). ltb y 256) 1 xs t) in
+    ap (λ (es : List ℕ). signatureBytes (getD xs 0 0) es (pointRead p xs)) (entries-written-back (p .n) (entriesRead p xs) allowed below) ∙ signature-written-back p xs l t
+
+-- two byte strings that are accepted, with the same first byte and the same meaning, are the same bytes; asked of them is only what is used of their being accepted
+module _ (p : Params) (xs ys : List ℕ) (first : getD xs 0 0 ≡ getD ys 0 0) where
+  -- signatures that have the same challenge and the same point
+  pub one-signature : length xs ≡ signatureSize p → T (areBelow 256 xs) → T (areEntries (p .n) (entriesRead p xs))
+      → length ys ≡ signatureSize p → T (areBelow 256 ys) → T (areEntries (p .n) (entriesRead p ys))
+      → challengeOf (p .n) (entriesRead p xs) ≡ challengeOf (p .n) (entriesRead p ys) → pointRead p xs ≡ pointRead p ys → xs ≡ ys
+  one-signature l t allowed l' t' allowed' challenge point =
+      sym (signature-of-meaning p xs l t allowed)
+      ∙ ap (λ (s : ℕ). signatureBytes s (entriesOf (challengeOf (p .n) (entriesRead p xs))) (pointRead p xs)) first
+      ∙ ap₂ (λ (c z : List ℤ). signatureBytes (getD ys 0 0) (entriesOf c) z) challenge point ∙ signature-of-meaning p ys l' t' allowed'
+
+  -- public keys that have the same exponents and the same evaluations
+  pub one-public-key : length xs ≡ publicKeySize p → T (areBelow 256 xs) → length ys ≡ publicKeySize p → T (areBelow 256 ys)
+      → pointsOf p xs ≡ pointsOf p ys → evaluationsOf p xs ≡ evaluationsOf p ys → xs ≡ ys
+  one-public-key l t l' t' points evaluations =
+      sym (public-key-written-back p xs l t)
+      ∙ ap (λ (s : ℕ). publicKey s (pointsOf p xs) (evaluationsOf p xs)) first
+      ∙ ap₂ (λ (js vs : List ℕ). publicKey (getD ys 0 0) js vs) points evaluations ∙ public-key-written-back p ys l' t'
+
+  -- secret keys that are the same polynomial
+  pub one-secret-key : length xs ≡ secretKeySize p → length ys ≡ secretKeySize p → keyOf xs ≡ keyOf ys → xs ≡ ys
+  one-secret-key l l' key =
+      sym (key-written-back xs (omega arith)) ∙ ap₂ (λ (s : ℕ) (f : List ℤ). secretKey s f) first key ∙ key-written-back ys (omega arith)

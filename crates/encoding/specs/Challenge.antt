@@ -14,7 +14,7 @@ indexOf e = e % 32768
 abbrev pub coefficientOf : ℕ → ℤ
 coefficientOf e = pick (ltb e 32768) (pos 1) (negsuc 0)
 
--- the coefficient of index i where these entries are left
+-- the coefficient at index i: that of the next entry where it is for i, else 0
 abbrev pub coefficientAt : ℕ → List ℕ → ℤ
 coefficientAt i [] = pos 0
 coefficientAt i (e ∷ es) = pick (eqb (indexOf e) i) (coefficientOf e) (pos 0)
@@ -29,7 +29,7 @@ abbrev pub increasing : ℕ → ℕ → List ℕ → Bool
 increasing n from [] = true
 increasing n from (e ∷ es) = leb from (indexOf e) && (ltb (indexOf e) n && increasing n (suc (indexOf e)) es)
 
--- the challenge index not below N, or not increasing, is refused
+-- the entries are allowed: challenge indices below N and increasing
 abbrev pub areEntries : ℕ → List ℕ → Bool
 areEntries n es = increasing n 0 es
 

@@ -2,9 +2,8 @@
 -- Assumes nothing.
 use mathlib.Core.Bool.{Bool, true, false, _&&_, not}
 use mathlib.Core.List.{List, [], _∷_, _++_, map}
-use mathlib.Core.Option.{Option, none, some}
 use Prim.Native.Nat.{ℕ, zero, suc, _-_}
-use lib.Dec.{T}
+use lib.Dec.{T, eqb}
 use lib.IntN.{ℤ, pos, negsuc}
 use lib.ListN.{length, replicate}
 use Rattle.algebra.specs.Choice.{pick}
@@ -17,12 +16,13 @@ use Rattle.encoding.specs.Bytes.{bytesOf, encoded}
 use Rattle.encoding.specs.Encoding.{signatureBytes}
 use Rattle.scheme.specs.Scheme.{equal, isDrawn}
 use Rattle.signer.specs.Signer.{signatureOf}
+use Rattle.passign.specs.Draw.{drawRefusal}
 
 -- a row: what is given, and what document 01 says comes of it
 pub data Case : Type 0 where
   -- a pool yields this challenge
   draws : List ℕ → List ℤ → Case
-  -- a pool is spent
+  -- a pool is spent: a draw from it is refused with 11
   spent : List ℕ → Case
   -- a polynomial has these evaluations at points 1 and 2
   evaluates : List ℤ → List ℕ → Case
@@ -69,19 +69,15 @@ sameNumbers xs ys = equal (map pos xs) (map pos ys)
 sameBool : Bool → Bool → Bool
 sameBool a b = pick a b (not b)
 
-isSpent : Option (List ℤ) → Bool
-isSpent none = true
-isSpent (some c) = false
-
 -- the test of a row, in set 0
 pub holds : Case → Bool
 holds (draws xs c) = isDrawn (draw (setOf 0) xs) c
-holds (spent xs) = isSpent (draw (setOf 0) xs)
+holds (spent xs) = eqb (drawRefusal 0 xs (replicate (setOf 0 .n) (pos 0))) 11
 holds (evaluates f vs) = sameNumbers (evaluations (setOf 0) f (1 ∷ 2 ∷ [])) vs
 holds (multiplies f c r) = equal (star f c) r
 holds (reaches f c y z inside) = equal (point f c y) z && sameBool (within (setOf 0 .k - setOf 0 .b) z) inside
 holds (encodes c z xs) = sameNumbers (signatureOf 0 (record { c = c; z = z })) xs
 
 pub worked-cases : T (all holds cases)
-unfolding holds cases pool poly minus sameNumbers sameBool isSpent setOf sets evaluations evaluation draw kept offered valueAt signAt placed signatureOf signatureBytes encoded bytesOf
+unfolding holds cases pool poly minus sameNumbers sameBool drawRefusal setOf sets evaluations evaluation draw kept offered valueAt signAt placed signatureOf signatureBytes encoded bytesOf
 worked-cases = tt

@@ -1,14 +1,18 @@
--- The commands that any plays of the code played are those of the rules, played with the same row buffers.
+-- Any plays of the code, from a session just opened, are plays by the rules with the same row buffers: the commands played are the same, and the session
+-- that the last play returned means the session after them. So what session_rules proves of `events` and `after` (`every-file-ends`, `held-is-told`,
+-- `ordinals-count`) holds of the code's plays and sessions.
 -- Assumes nothing.
 use mathlib.Core.Path.{_≡_, refl, ap, ap₂, _∙_}
 use mathlib.Core.List.{List, [], _∷_, _++_, map}
 use Prim.Native.Nat.{ℕ}
 use Rattle.session_rules.specs.Play.{Session, Outcome, opened}
 use Rattle.session_rules.specs.Plays.{Event, eventOf, eventsFrom, events}
+use Rattle.session_rules.proofs.After.{after}
 use Rattle.session.specs.declared.Session as code
 use Rattle.session.specs.Session.{sessionOf}
-use Rattle.session.specs.Turns.{Turn, Turns, turnEvents}
+use Rattle.session.specs.Turns.{Turn, Turns, lastOf, turnEvents}
 
+-- the row buffers that the turns were lent
 abbrev pub lentBy : List Turn → List (List ℕ)
 lentBy ts = map (λ (t : Turn). t .lent) ts
 
@@ -19,6 +23,16 @@ by-rules s file (t ∷ ts) h =
     ap₂ (λ (a b : List Event). a ++ b) (ap (eventOf (sessionOf s) file) (h .0))
     (by-rules (t .gave .session) file ts (h .1) ∙ ap (λ (o : Outcome). eventsFrom (o .session) file (lentBy ts)) (h .0))
 
+-- the commands played
 pub turns-by-rules : (s : code.Session) → sessionOf s ≡ opened → (file : List ℕ) (ts : List Turn) → Turns s file ts → turnEvents s file ts ≡ events file (lentBy ts)
 unfolding events
 turns-by-rules s e file ts h = by-rules s file ts h ∙ ap (λ (r : Session). eventsFrom r file (lentBy ts)) e
+
+after-from : (s : code.Session) (file : List ℕ) (ts : List Turn) → Turns s file ts → sessionOf (lastOf s ts) ≡ after (sessionOf s) file (lentBy ts)
+unfolding lastOf after
+after-from s file [] h = refl
+after-from s file (t ∷ ts) h = after-from (t .gave .session) file ts (h .1) ∙ ap (λ (o : Outcome). after (o .session) file (lentBy ts)) (h .0)
+
+-- the session after them
+pub turns-after : (s : code.Session) → sessionOf s ≡ opened → (file : List ℕ) (ts : List Turn) → Turns s file ts → sessionOf (lastOf s ts) ≡ after opened file (lentBy ts)
+turns-after s e file ts h = after-from s file ts h ∙ ap (λ (r : Session). after r file (lentBy ts)) e

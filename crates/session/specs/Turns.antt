@@ -20,6 +20,11 @@ abbrev pub Turns : code.Session → List ℕ → List Turn → Type 0
 Turns s file [] = Unit {0}
 Turns s file (t ∷ ts) = (outcomeOf (t .gave) (t .left) ≡ play (sessionOf s) file (t .lent)) × Turns (t .gave .session) file ts
 
+-- the session that the last turn returned
+unfoldable pub lastOf : code.Session → List Turn → code.Session
+lastOf s [] = s
+lastOf s (t ∷ ts) = lastOf (t .gave .session) ts
+
 -- the commands that the turns played, with the answers that they gave and the row buffers that they left
 unfoldable pub turnEvents : code.Session → List ℕ → List Turn → List Event
 turnEvents s file [] = []

@@ -11,6 +11,7 @@ use Rattle.algebra.proofs.Test.{by-test}
 use Rattle.session_rules.specs.Play.{Session, opened, nextOrdinal, step, Outcome, play}
 use Rattle.session_rules.specs.Plays.{eventOf, eventsFrom}
 use Rattle.session_rules.proofs.After.{after, play-by}
+use Rattle.session_rules.proofs.Stepping.{BeforeFirst}
 use Rattle.session_rules.proofs.Reaching.{Reachable, once-more, reached, reached-step}
 use Rattle.session_rules.proofs.Ending.{stays-ended}
 
@@ -60,7 +61,7 @@ counted-opened file = record { rows = refl; moved = omega arith; inside = omega 
 
 -- the ordinal of the row that a play would write
 pub next-ordinal : {file : List ℕ} {n : ℕ} {s : Session} → Reachable s → Counted file n s
-    → (step s file .ordinal ≡ n + 1) ⊎ ((step s file .ordinal ≡ 0) × (s .started ≡ false))
+    → (step s file .ordinal ≡ n + 1) ⊎ BeforeFirst s (step s file .ordinal) (step s file .number)
 next-ordinal {file} {n} {s} r c =
     let (t, (kept, w)) = reached r in
     let is : nextOrdinal (s .rows) ≡ n + 1 = by-test (s .started) (λ e. next c (c .sized e)) (λ e. omega (arith, c .rows, c .moved, w .fresh e)) in

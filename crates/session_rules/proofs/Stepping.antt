@@ -21,6 +21,10 @@ use Rattle.session_rules.proofs.Telling.{Kept, keepAccepted, keep, Tell
 use Rattle.session_rules.proofs.Text.{length-decimal, length-hex}
 use Rattle.session_rules.proofs.Playing.{isEnding, played, SignedTold, does}
 
+-- a row before the first command: ordinal 0, of the first play, with refusal 1 (the file is too long) or 15 (it has no tag)
+abbrev pub BeforeFirst : Session → ℕ → ℕ → Type 0
+BeforeFirst s ordinal number = (ordinal ≡ 0) × ((s .started ≡ false) × ((number ≡ 1) ⊎ (number ≡ 15)))
+
 -- what a play that writes a row does to the session s
 pub record Steps (t : Told) (kept : Kept) (s : Session) (file : List ℕ) (x : Step) : Type 0 where
   -- what is held is what is told
@@ -41,7 +45,7 @@ pub record Steps (t : Told) (kept : Kept) (s : Session) (file : List ℕ) (x : S
   pub counts : x .session .ended ≡ false → x .session .rows ≡ nextOrdinal (s .rows)
   pub begins : s .started ≡ false → x .session .ended ≡ false → length file ≤ 65536
   -- the row has the next ordinal, or stands before the first command
-  pub numbered : (x .ordinal ≡ nextOrdinal (s .rows)) ⊎ ((x .ordinal ≡ 0) × (s .started ≡ false))
+  pub numbered : (x .ordinal ≡ nextOrdinal (s .rows)) ⊎ BeforeFirst s (x .ordinal) (x .number)
   -- the row fits its buffer
   pub short : length (rowOf x) ≤ 16384
 
@@ -62,7 +66,7 @@ length-row ordinal byte number x h =
 
 module _ (t : Told) (kept : Kept) (s : Session) (tells : Tells t kept (s .held)) (fits : Fits (paramsTold t) kept (s .held)) (file : List ℕ) where
   -- a refusal that ends the session
-  stops : {place ordinal rows : ℕ} (byte number : ℕ) → (ordinal ≡ nextOrdinal (s .rows)) ⊎ ((ordinal ≡ 0) × (s .started ≡ false))
+  stops : {place ordinal rows : ℕ} (byte number : ℕ) → (ordinal ≡ nextOrdinal (s .rows)) ⊎ BeforeFirst s ordinal number
       → eqb number 0 ≡ false → eqb number 9 ≡ false → isEnding number ≡ true
       → Steps t kept s file (record {
         session = record { started = true; ended = true; place = place; rows = rows; held = s .held };
@@ -155,6 +159,6 @@ module _ (t : Told) (kept : Kept) (s : Session) (tells : Tells t kept (s .held))
   unfolding step
   steps fresh =
       pick-by (Steps t kept s file) (s .started) (λ e. steps-command (s .place) (omega arith) (λ f. absurd (true≢false (sym e ∙ f))))
-      (λ e. pick-by (Steps t kept s file) (ltb 65536 (length file)) (λ l. stops 0 1 (inr (refl, e)) refl refl refl)
-      (λ l. pick-by (Steps t kept s file) (not (isTagged file)) (λ g. stops 0 15 (inr (refl, e)) refl refl refl)
+      (λ e. pick-by (Steps t kept s file) (ltb 65536 (length file)) (λ l. stops 0 1 (inr (refl, (e, inl refl))) refl refl refl)
+      (λ l. pick-by (Steps t kept s file) (not (isTagged file)) (λ g. stops 0 15 (inr (refl, (e, inr refl))) refl refl refl)
       (λ g. steps-command 4 (omega (arith, fresh e)) (λ f. ltb-false 65536 (length file) l))))

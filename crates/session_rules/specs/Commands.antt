@@ -170,7 +170,7 @@ commandIn c h b op =
     (pick (eqb b 7) (check c h op)
     (loadEvaluations c h op))))))
 
--- command b, 01 to 08, with its operand; without a set 02 to 08 are refused with 3
+-- command b, 01 to 08, with its operand. Without a set 02 to 08 never come here: `commandStep` refuses them first, and ends the session
 unfoldable pub command : Held → ℕ → List ℕ → Done
 command h b op = pick (eqb b 1) (chooseSet h op) (inSet (h .set))
   where

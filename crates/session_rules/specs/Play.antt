@@ -122,6 +122,12 @@ pub data Answer : Type 0 where
   fault : Answer
   over : Answer
 
+-- the document's number of an answer: a row prints its own, a row buffer of another length is refusal 1, and after the end there is none
+abbrev pub answerNumber : Answer → Option ℕ
+answerNumber (row n) = some n
+answerNumber fault = some 1
+answerNumber over = none
+
 pub record Outcome : Type 0 where
   pub session : Session
   pub answer : Answer

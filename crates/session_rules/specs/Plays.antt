@@ -134,7 +134,7 @@ tellAccepted t b op =
     (pick (eqb b 6) (withMasksTold t (drop (suc (firstPassing t)) (t .masks)))
     t)))))
 
--- one more command: accepted; a 06 refused with 9, which drops all masks; refused otherwise
+-- one more command: accepted; refused with 9, which only a 06 is, and which drops all masks; refused otherwise
 unfoldable pub tell : Told → Event → Told
 tell t e =
     pick (eqb (e .number) 0) (tellAccepted t (e .byte) (e .operand))
