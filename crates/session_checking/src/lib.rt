@@ -26,9 +26,7 @@ fn can_check(p: Params, h: Held) -> bool
     ensures { λ r. ⌜ r ≡ hasPoints p (h .points) && (h .evaluations .held && h .message .held) ⌝ }
 {
     let points = h.points;
-    let evaluations = h.evaluations;
-    let message = h.message;
-    has_points(p, points) & (evaluations.held & message.held)
+    has_points(p, points) & (h.evaluations.held & h.message.held)
 }
 
 // The public key of the points and evaluations held, in front.

@@ -81,8 +81,7 @@ pub fn load_mask(p: Params, h: Held, operand: &[u8]) -> Done
     ensures set { λ r. ⌜ r .held .set ≡ h .set ⌝ }
 {
     let n = p.n;
-    let masks = h.masks;
-    if 8 <= masks.count {
+    if 8 <= h.masks.count {
         return Done { number: 8, held: h };
     }
     let mut mask = [0i16; 1153];
@@ -90,6 +89,7 @@ pub fn load_mask(p: Params, h: Held, operand: &[u8]) -> Done
     if !masks_within(&mask[..n], p.k) {
         return Done { number: 6, held: h };
     }
+    let masks = h.masks;
     let more = with_mask(n, masks, &mask[..n]);
     let mut next = h;
     next.masks = more;

@@ -39,9 +39,7 @@ fn can_sign(p: Params, h: Held) -> bool
     ensures { λ r. ⌜ r ≡ hasPoints p (h .points) && (h .key .held && h .message .held) ⌝ }
 {
     let points = h.points;
-    let key = h.key;
-    let message = h.message;
-    has_points(p, points) & (key.held & message.held)
+    has_points(p, points) & (h.key.held & h.message.held)
 }
 
 // The secret key held, in front.
@@ -65,13 +63,10 @@ fn make(p: Params, h: Held) -> Made
     let t = p.t;
     let key_size = 1 + n;
     let size = 1 + 2 * p.b + 2 * n;
-    let points = h.points;
-    let list = points.list;
-    let masks = h.masks;
-    let numbers = masks.numbers;
-    let used = at_most_eight(masks.count) * n;
-    let message = h.message;
-    let text = message.bytes;
+    let list = h.points.list;
+    let numbers = h.masks.numbers;
+    let used = at_most_eight(h.masks.count) * n;
+    let text = h.message.bytes;
     let secret = secret_held(p, h);
     let mut out = [0u8; 2435];
     let answer = passign::sign::sign(

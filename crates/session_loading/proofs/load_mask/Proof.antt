@@ -42,24 +42,24 @@ loaded p h more op mask few is small e = rw (spare (p .n) (h .masks) few, small,
 returns : tie.Need-returns
 unfolding loadMask heldIn
 returns c =
-    let a = c .before .before .before .before .args in
+    let a = c .before .before .before .args in
     (rw (full (a .p .n) (a .h .masks) (c .if1 .taken)), refl)
 
 array-borrow-prefix-mask : tie.Need-array-borrow-prefix-mask
-array-borrow-prefix-mask c = c .before .before .before .before .pre .0 .size
+array-borrow-prefix-mask c = c .before .before .before .pre .0 .size
 
 slice-aggregate-read-signed-words : tie.Need-slice-aggregate-read-signed-words
 slice-aggregate-read-signed-words c = sym (length-take-le _ (replicate 1153 (pos 0)) (array-borrow-prefix-mask (c .before)))
 
 read-signed-words-requires : tie.Need-read-signed-words-requires
-read-signed-words-requires c κs = c .before .before .before .before .before .pre .1 ∙ ap (λ (n : ℕ). 2 * n) (slice-aggregate-read-signed-words c)
+read-signed-words-requires c κs = c .before .before .before .before .pre .1 ∙ ap (λ (n : ℕ). 2 * n) (slice-aggregate-read-signed-words c)
 
 -- the numbers are read into the front
 read : (c : tie.After-read-signed-words)
-    → let a = c .before .before .before .before .before .before .args in
+    → let a = c .before .before .before .before .before .args in
     InFront (a .p .n) (maskOf (a .p) (a .operand .now)) (c .read-signed-words .last .1 .0 ++ drop (a .p .n) (replicate 1153 (pos 0)))
 read c =
-    let a = c .before .before .before .before .before .before .args in
+    let a = c .before .before .before .before .before .args in
     stored (a .p .n) (drop (a .p .n) (replicate 1153 (pos 0)))
     (length-map (numbers 2 (a .p .n) (a .operand .now)) signed16 ∙ length-numbers 2 (a .p .n) (a .operand .now))
     (c .read-signed-words .ensures ∙ ap (λ (n : ℕ). map signed16 (numbers 2 n (a .operand .now))) (sym (slice-aggregate-read-signed-words (c .before))))
@@ -75,35 +75,35 @@ masks-within-requires c κs = search needs
 
 -- and tested
 tested : (c : tie.After-masks-within)
-    → let a = c .before .before .before .before .before .before .before .before .before .args in
+    → let a = c .before .before .before .before .before .before .before .before .args in
     within (a .p .k) (maskOf (a .p) (a .operand .now)) ≡ c .masks-within .result
 tested c =
     let r = c .before .before .before in
-    sym (c .masks-within .ensures ∙ ap (within (r .before .before .before .before .before .before .args .p .k)) (read r .front))
+    sym (c .masks-within .ensures ∙ ap (within (r .before .before .before .before .before .args .p .k)) (read r .front))
 
 returns-2 : tie.Need-returns-2
 unfolding loadMask heldIn
 returns-2 c =
     let r = c .before .before .before .before .before .before in
-    let a = r .before .before .before .before .args in
+    let a = r .before .before .before .args in
     (rw (spare (a .p .n) (a .h .masks) (r .if1 .left), tested (c .before) ∙ not-true _ (c .if2 .taken)), refl)
 
 array-share-prefix-mask-2 : tie.Need-array-share-prefix-mask-2
-array-share-prefix-mask-2 c = read (c .before .before .before .before) .room
+array-share-prefix-mask-2 c = read (c .before .before .before .before .before) .room
 
 slice-aggregate-with-mask : tie.Need-slice-aggregate-with-mask
-slice-aggregate-with-mask c = read (c .before .before .before .before .before) .count
+slice-aggregate-with-mask c = read (c .before .before .before .before .before .before) .count
 
 with-mask-requires : tie.Need-with-mask-requires
 with-mask-requires c κs =
-    let r = c .before .before .before .before .before .before .before in
-    (r .before .before .before .before .pre .0 .size, r .if1 .left, sym (slice-aggregate-with-mask c))
+    let r = c .before .before .before .before .before .before .before .before in
+    (r .before .before .before .pre .0 .size, r .if1 .left, sym (slice-aggregate-with-mask c))
 
 returns-3 : tie.Need-returns-3
 returns-3 c =
-    let t = c .before .before in
+    let t = c .before .before .before in
     let r = t .before .before .before .before in
-    let a = r .before .before .before .before .before .before .args in
+    let a = r .before .before .before .before .before .args in
     (loaded (a .p) (a .h) (c .with-mask .result) (a .operand .now) _ (r .before .before .if1 .left) (read r .front) (tested (t .before) ∙ not-false _ (t .if2 .left)) (c .with-mask .ensures), refl)
 
 pub load-mask-spec : {M : Type 1} → statement M

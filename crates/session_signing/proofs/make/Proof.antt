@@ -50,9 +50,9 @@ add-size-2 c = search needs
 at-most-eight-requires : tie.Need-at-most-eight-requires
 at-most-eight-requires c κs = search needs
 
-used-room : (c : tie.After-at-most-eight) → c .at-most-eight .result * c .before .before .before .before .before .before .args .p .n ≤ 9224
+used-room : (c : tie.After-at-most-eight) → c .at-most-eight .result * c .before .before .before .before .args .p .n ≤ 9224
 used-room c =
-    let s = c .before .before .before .before .before .before in
+    let s = c .before .before .before .before in
     room (c .at-most-eight .result) (s .args .p .n) (c .at-most-eight .ensures .1) (s .pre .size)
 
 mul-used : tie.Need-mul-used
@@ -67,37 +67,37 @@ array-share-prefix-secret c = search needs
 slice-aggregate-sign : tie.Need-slice-aggregate-sign
 slice-aggregate-sign c =
     let k = c .before in
-    let p = k .before .before .before .before .before .before .before .before .before .args .p in
+    let p = k .before .before .before .before .before .before .args .p in
     sym (length-take-le (secretKeySize p) (k .secret-held .result) (array-share-prefix-secret k))
 
 array-share-prefix-list : tie.Need-array-share-prefix-list
-array-share-prefix-list c = points-fit (c .before .before .before .before .before .before .before .before .before .before)
+array-share-prefix-list c = points-fit (c .before .before .before .before .before .before .before)
 
 slice-aggregate-sign-2 : tie.Need-slice-aggregate-sign-2
 slice-aggregate-sign-2 c =
-    let s = c .before .before .before .before .before .before .before .before .before .before .before in
+    let s = c .before .before .before .before .before .before .before .before in
     sym (length-take-le (s .args .p .t) (s .args .h .points .list) (points-fit s))
 
 array-share-prefix-numbers : tie.Need-array-share-prefix-numbers
 array-share-prefix-numbers c =
-    let used = c .before .before .before .before .before in
-    omega (arith, used-room used, numbers-size (used .before .before .before .before .before .before))
+    let used = c .before .before .before .before in
+    omega (arith, used-room used, numbers-size (used .before .before .before .before))
 
 slice-aggregate-sign-3 : tie.Need-slice-aggregate-sign-3
 slice-aggregate-sign-3 c =
-    let used = c .before .before .before .before .before .before in
-    let a = used .before .before .before .before .before .before .args in
+    let used = c .before .before .before .before .before in
+    let a = used .before .before .before .before .args in
     sym (length-take-le (used .at-most-eight .result * a .p .n) (a .h .masks .numbers) (array-share-prefix-numbers (c .before)))
 
 slice-aggregate-sign-4 : tie.Need-slice-aggregate-sign-4
-slice-aggregate-sign-4 c = sym (message-size (c .before .before .before .before .before .before .before .before .before .before .before .before .before))
+slice-aggregate-sign-4 c = sym (message-size (c .before .before .before .before .before .before .before .before .before .before))
 
 array-borrow-prefix-out : tie.Need-array-borrow-prefix-out
 array-borrow-prefix-out c = search needs
 
 slice-aggregate-sign-5 : tie.Need-slice-aggregate-sign-5
 slice-aggregate-sign-5 c =
-    let s = c .before .before .before .before .before .before .before .before .before .before .before .before .before .before in
+    let s = c .before .before .before .before .before .before .before .before .before .before .before in
     sym (length-take-le {A = ℕ} (signatureSize (s .args .p)) (replicate 2435 0) (signature-room (s .pre)))
 
 sign-requires : tie.Need-sign-requires
@@ -113,10 +113,10 @@ module _ (c : tie.After-out2) where
   secret = c .before .before .before .before .before .before .before
 
   abbrev used : tie.After-at-most-eight
-  used = secret .before .before .before
+  used = secret .before .before
 
   abbrev start : tie.Start
-  start = used .before .before .before .before .before .before
+  start = used .before .before .before .before
 
   masks-lent : take (used .at-most-eight .result * start .args .p .n) (start .args .h .masks .numbers) ≡ joined (masksHeld (start .args .p .n) (start .args .h .masks))
   masks-lent =
