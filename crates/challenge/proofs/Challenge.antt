@@ -16,7 +16,7 @@ use Rattle.algebra.proofs.Test.{and-left, and-right, and-intro, pick-by, by-tes
 use Rattle.parameters.specs.declared.Params.{Params}
 use Rattle.polynomial.specs.Polynomial.{coefficient, ternary, weight}
 use Rattle.challenge.specs.Pool.{pool}
-use Rattle.challenge.specs.Draw.{signAt, valueAt, taken, offered, kept, placed, valueCount, draw, drawChallenge}
+use Rattle.challenge.specs.Draw.{signAt, valueAt, taken, withValue, kept, placed, valueCount, draw, drawChallenge}
 use Rattle.challenge.proofs.Kept.{index-below, sign-abs, taken-more, placed-more}
 
 -- N coefficients, each -1, 0 or 1, and b of them not 0
@@ -57,7 +57,7 @@ module _ (p : Params) (bytes : List ℕ) where
   kept-by : (P : List ℕ → Type 0) → P []
       → ((js : List ℕ) (j : ℕ) → j < p .n → taken j js ≡ false → P js → P (js ++ (j ∷ [])))
       → (m : ℕ) → P (kept p bytes m)
-  unfolding kept offered
+  unfolding kept withValue
   kept-by P none-yet more zero = none-yet
   kept-by P none-yet more (suc m) =
       let v = valueAt bytes m in

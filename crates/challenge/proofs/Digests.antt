@@ -1,7 +1,7 @@
 -- Digests that stand one after the other: each has 64 bytes, so byte i of the pool is byte i % 64 of digest i / 64.
 -- Assumes nothing.
 use mathlib.Core.Path.{_≡_, refl, ap, _∙_}
-use mathlib.Core.List.{List, [], _∷_, _++_}
+use mathlib.Core.List.{List, [], _∷_, _++_, flatten}
 use mathlib.Core.Logic.{⊎-elim}
 use Prim.Native.Nat.{ℕ, zero, suc, _-_, _*_, _/_, _%_, _≤_, _<_, zero-le, suc-le-suc}
 use native.Mathlib.Nat.{not-suc-le-zero}
@@ -11,7 +11,7 @@ use Rattle.algebra.proofs.List.{getD-after}
 use Rattle.algebra.proofs.Test.{lt-or-le}
 use Rattle.sha512.specs.Digest.{SHA-512}
 use Rattle.sha512.proofs.Digest.{digest-length}
-use Rattle.challenge.specs.Pool.{commitmentBytes, digests, poolDigests, joined, pool}
+use Rattle.challenge.specs.Pool.{commitmentBytes, digests, poolDigests, pool}
 
 -- each element has 64 bytes
 abbrev pub Digests : List (List ℕ) → Type 0
@@ -20,27 +20,27 @@ Digests ds = (k : ℕ) → k < length ds → length (getD ds k []) ≡ 64
 rest : (d : List ℕ) (ds : List (List ℕ)) → Digests (d ∷ ds) → Digests ds
 rest d ds h k l = h (suc k) (suc-le-suc l)
 
-pub joined-length : (ds : List (List ℕ)) → Digests ds → length (joined ds) ≡ 64 * length ds
-unfolding joined
-joined-length [] h = refl
-joined-length (d ∷ ds) h =
+pub flatten-length : (ds : List (List ℕ)) → Digests ds → length (flatten ds) ≡ 64 * length ds
+unfolding flatten
+flatten-length [] h = refl
+flatten-length (d ∷ ds) h =
     let e : length d ≡ 64 = h 0 (suc-le-suc zero-le) in
-    rw (length-append, e, joined-length ds (rest d ds h)) (omega arith)
+    rw (length-append, e, flatten-length ds (rest d ds h)) (omega arith)
 
-pub joined-at : (ds : List (List ℕ)) (i : ℕ) → Digests ds → i < 64 * length ds → getD (joined ds) i 0 ≡ getD (getD ds (i / 64) []) (i % 64) 0
-unfolding joined
-joined-at [] i h l = absurd (omega arith)
-joined-at (d ∷ ds) i h l =
+pub flatten-at : (ds : List (List ℕ)) (i : ℕ) → Digests ds → i < 64 * length ds → getD (flatten ds) i 0 ≡ getD (getD ds (i / 64) []) (i % 64) 0
+unfolding flatten
+flatten-at [] i h l = absurd (omega arith)
+flatten-at (d ∷ ds) i h l =
     let e : length d ≡ 64 = h 0 (suc-le-suc zero-le) in
     ⊎-elim
     (λ (q : i < 64).
     let z : i / 64 ≡ 0 = omega arith in
     let m : i % 64 ≡ i = omega arith in
-    List·getD-append d (joined ds) 0 i (omega arith) ∙ rw (z, m))
+    List·getD-append d (flatten ds) 0 i (omega arith) ∙ rw (z, m))
     (λ (q : 64 ≤ i).
     let z : i / 64 ≡ suc ((i - 64) / 64) = omega arith in
     let m : i % 64 ≡ (i - 64) % 64 = omega arith in
-    getD-after d (joined ds) i 0 (omega arith) ∙ rw (e, z, m) (joined-at ds (i - 64) (rest d ds h) (omega arith)))
+    getD-after d (flatten ds) i 0 (omega arith) ∙ rw (e, z, m) (flatten-at ds (i - 64) (rest d ds h) (omega arith)))
     (lt-or-le i 64)
 
 digests-count : (n : ℕ) (d : List ℕ) → length (digests n d) ≡ n
@@ -74,4 +74,4 @@ pub pool-length : (w message : List ℕ) → length (pool w message) ≡ 512
 unfolding pool
 pool-length w message =
     let bytes = commitmentBytes w in
-    joined-length (poolDigests bytes message) (pool-sized bytes message) ∙ ap (λ (n : ℕ). 64 * n) (pool-count bytes message)
+    flatten-length (poolDigests bytes message) (pool-sized bytes message) ∙ ap (λ (n : ℕ). 64 * n) (pool-count bytes message)

@@ -22,7 +22,7 @@ use Rattle.algebra.proofs.List.{take-replicate}
 use Rattle.algebra.proofs.Test.{pick-by, by-test}
 use Rattle.algebra.proofs.Signed.{fits-signed}
 use Rattle.parameters.specs.declared.Params.{Params}
-use Rattle.challenge.specs.Draw.{signAt, valueAt, taken, offered, kept, signed, placed, valueCount, draw, drawnChallenge}
+use Rattle.challenge.specs.Draw.{signAt, valueAt, taken, withValue, kept, signed, placed, valueCount, draw, drawnOf}
 
 pick-same : {A : Type 0} (t : Bool) (a : A) → pick t a a ≡ a
 pick-same true a = refl
@@ -30,21 +30,21 @@ pick-same false a = refl
 
 -- what becomes of a value v
 module _ (p : Params) (v : ℕ) (js : List ℕ) where
-  offered-full : p .b ≤ length js → offered p v js ≡ js
-  unfolding offered
+  offered-full : p .b ≤ length js → withValue p v js ≡ js
+  unfolding withValue
   offered-full h = rw (le-leb (p .b) (length js))
 
-  offered-above : p .n * (65536 / p .n) ≤ v → offered p v js ≡ js
-  unfolding offered
+  offered-above : p .n * (65536 / p .n) ≤ v → withValue p v js ≡ js
+  unfolding withValue
   offered-above h = rw (le-leb (p .n * (65536 / p .n)) v) (pick-same (leb (p .b) (length js)) js)
 
-  offered-taken : taken (v % p .n) js ≡ true → offered p v js ≡ js
-  unfolding offered
+  offered-taken : taken (v % p .n) js ≡ true → withValue p v js ≡ js
+  unfolding withValue
   offered-taken e =
       rw (e, pick-same (leb (p .n * (65536 / p .n)) v) js) (pick-same (leb (p .b) (length js)) js)
 
-  offered-kept : length js < p .b → v < p .n * (65536 / p .n) → taken (v % p .n) js ≡ false → offered p v js ≡ js ++ (v % p .n ∷ [])
-  unfolding offered
+  offered-kept : length js < p .b → v < p .n * (65536 / p .n) → taken (v % p .n) js ≡ false → withValue p v js ≡ js ++ (v % p .n ∷ [])
+  unfolding withValue
   offered-kept h l e = rw (lt-leb (p .b) (length js), lt-leb (p .n * (65536 / p .n)) v, e)
 
 -- once b indices are kept, further values change nothing
@@ -53,7 +53,7 @@ unfolding kept
 kept-full p bytes m zero h = ap (kept p bytes) (add-zero m)
 kept-full p bytes m (suc d) h =
     let e = kept-full p bytes m d h in
-    ap (kept p bytes) (add-suc m d) ∙ ap (offered p (valueAt bytes (m + d))) e ∙ offered-full p (valueAt bytes (m + d)) (kept p bytes m) h
+    ap (kept p bytes) (add-suc m d) ∙ ap (withValue p (valueAt bytes (m + d))) e ∙ offered-full p (valueAt bytes (m + d)) (kept p bytes m) h
 
 -- n values, where the first m keep b indices or are all of them
 kept-rest : (p : Params) (bytes : List ℕ) (m n : ℕ) → m ≤ n → (p .b ≤ length (kept p bytes m)) ⊎ (n ≤ m) → kept p bytes n ≡ kept p bytes m
@@ -134,7 +134,7 @@ held-none p bytes h = record {
 module _ (p : Params) (bytes : List ℕ) {m : ℕ} {marks : List Bool} {challenge : List ℤ} {count : ℕ} (s : Held p bytes m marks challenge count) where
   -- the loop ends where b indices are kept or no value is left
   pub held-all : m ≤ valueCount bytes → (p .b ≤ count) ⊎ (valueCount bytes ≤ m)
-      → drawnChallenge p (record { complete = eqb count (p .b); challenge = challenge }) ≡ draw p bytes
+      → drawnOf p (record { complete = eqb count (p .b); challenge = challenge }) ≡ draw p bytes
   unfolding draw
   held-all h left =
       rw (
@@ -144,12 +144,12 @@ module _ (p : Params) (bytes : List ℕ) {m : ℕ} {marks : List Bool} {challeng
       )
 
   module _ (v : ℕ) (e : v ≡ valueAt bytes m) where
-    kept-next : kept p bytes (m + 1) ≡ offered p v (kept p bytes m)
+    kept-next : kept p bytes (m + 1) ≡ withValue p v (kept p bytes m)
     unfolding kept
-    kept-next = ap (kept p bytes) (add-one m) ∙ ap (λ (x : ℕ). offered p x (kept p bytes m)) (sym e)
+    kept-next = ap (kept p bytes) (add-one m) ∙ ap (λ (x : ℕ). withValue p x (kept p bytes m)) (sym e)
 
     -- the value is skipped, so nothing changes
-    held-skipped : offered p v (kept p bytes m) ≡ kept p bytes m → Held p bytes (m + 1) marks challenge count
+    held-skipped : withValue p v (kept p bytes m) ≡ kept p bytes m → Held p bytes (m + 1) marks challenge count
     held-skipped o =
         let same : kept p bytes (m + 1) ≡ kept p bytes m = kept-next ∙ o in
         record {

@@ -31,8 +31,8 @@ taken k (j ∷ js) = eqb k j || taken k js
 
 -- what the value v makes of the indices kept so far. Drawing stops after b indices. A value of at least N times (65536/N rounded down)
 -- is skipped; otherwise its index is v mod N, skipped if already marked as taken
-unfoldable pub offered : Params → ℕ → List ℕ → List ℕ
-offered p v js =
+unfoldable pub withValue : Params → ℕ → List ℕ → List ℕ
+withValue p v js =
     pick (leb (p .b) (length js)) js
     (pick (leb (p .n * (65536 / p .n)) v) js
     (pick (taken (v % p .n) js) js
@@ -41,7 +41,7 @@ offered p v js =
 -- the indices kept of the first m values, in the order drawn
 unfoldable pub kept : Params → List ℕ → ℕ → List ℕ
 kept p bytes zero = []
-kept p bytes (suc m) = offered p (valueAt bytes m) (kept p bytes m)
+kept p bytes (suc m) = withValue p (valueAt bytes m) (kept p bytes m)
 
 -- the index kept as number i gets sign i, and so on for those after it
 abbrev pub signed : List ℕ → ℕ → List ℕ → List ℤ → List ℤ
@@ -64,5 +64,5 @@ unfoldable pub drawChallenge : Params → List ℕ → List ℕ → Option (List
 drawChallenge p w message = draw p (pool w message)
 
 -- what the drawer's answer says: its first N coefficients, or that the pool is spent
-abbrev pub drawnChallenge : Params → Drawn → Option (List ℤ)
-drawnChallenge p d = pick (d .complete) (some (take (p .n) (d .challenge))) none
+abbrev pub drawnOf : Params → Drawn → Option (List ℤ)
+drawnOf p d = pick (d .complete) (some (take (p .n) (d .challenge))) none

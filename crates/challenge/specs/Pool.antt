@@ -1,6 +1,6 @@
 -- Document 01, "Hash and challenge": the commitment bytes and the pool.
 -- Assumes nothing.
-use mathlib.Core.List.{List, [], _∷_, _++_, map}
+use mathlib.Core.List.{List, [], _∷_, _++_, map, flatten}
 use Prim.Native.Nat.{ℕ, zero, suc, _%_}
 use Rattle.sha512.specs.Digest.{SHA-512}
 
@@ -17,11 +17,6 @@ digests (suc n) d = d ∷ digests n (SHA-512 d)
 unfoldable pub poolDigests : List ℕ → List ℕ → List (List ℕ)
 poolDigests bytes message = digests 8 (SHA-512 (bytes ++ SHA-512 message))
 
--- digests one after the other
-unfoldable pub joined : List (List ℕ) → List ℕ
-joined [] = []
-joined (d ∷ ds) = d ++ joined ds
-
--- the pool of a commitment and a message: 512 bytes
+-- the pool of a commitment and a message: its digests one after the other, 512 bytes
 unfoldable pub pool : List ℕ → List ℕ → List ℕ
-pool w message = joined (poolDigests (commitmentBytes w) message)
+pool w message = flatten (poolDigests (commitmentBytes w) message)

@@ -3,7 +3,7 @@ ghost use mathlib.Core.Path.{_≡_};
 ghost use Prim.Native.Nat.{_+_, _*_, _/_, _<_, _≤_};
 ghost use lib.ListN.{length};
 ghost use Rattle.parameters.specs.Sound.{Fitting};
-ghost use Rattle.challenge.specs.Draw.{signAt, valueAt, draw, drawChallenge, drawnChallenge};
+ghost use Rattle.challenge.specs.Draw.{signAt, valueAt, draw, drawChallenge, drawnOf};
 use crate::Drawn;
 use crate::pool::pool_of;
 use parameters::Params;
@@ -37,7 +37,7 @@ fn value_at(pool: &[u8], m: usize) -> usize
 pub fn draw_from(p: Params, pool: &[u8]) -> Drawn
     requires { ⌜ Fitting p ⌝ }
     requires { ⌜ 8 ≤ length (now pool) ⌝ }
-    ensures { λ r. ⌜ drawnChallenge p r ≡ draw p (now (pool .entry)) ⌝ }
+    ensures { λ r. ⌜ drawnOf p r ≡ draw p (now (pool .entry)) ⌝ }
 {
     let limit = p.n * (65536 / p.n);
     let values = (pool.len() - 8) / 2;
@@ -67,7 +67,7 @@ pub fn draw_from(p: Params, pool: &[u8]) -> Drawn
 pub fn challenge_of(p: Params, evaluations: &[u32], message: &[u8]) -> Drawn
     requires { ⌜ Fitting p ⌝ }
     requires { ⌜ length (now evaluations) ≤ 1152 ⌝ }
-    ensures { λ r. ⌜ drawnChallenge p r ≡ drawChallenge p (now (evaluations .entry)) (now (message .entry)) ⌝ }
+    ensures { λ r. ⌜ drawnOf p r ≡ drawChallenge p (now (evaluations .entry)) (now (message .entry)) ⌝ }
 {
     let pool = pool_of(evaluations, message);
     draw_from(p, &pool)

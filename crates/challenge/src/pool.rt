@@ -1,9 +1,9 @@
 // The commitment bytes, and the pool: eight digests.
 ghost use mathlib.Core.Path.{_≡_};
-ghost use mathlib.Core.List.{[]};
+ghost use mathlib.Core.List.{[], flatten};
 ghost use Prim.Native.Nat.{ℕ, _%_, _≤_, _<_};
 ghost use lib.ListN.{length, take, getD};
-ghost use Rattle.challenge.specs.Pool.{commitmentBytes, joined, pool, poolDigests};
+ghost use Rattle.challenge.specs.Pool.{commitmentBytes, pool, poolDigests};
 use sha512::sha512;
 use sha512::sha512_of_two;
 
@@ -47,7 +47,7 @@ fn pool_digests(commitment: &[u8], message: &[u8]) -> [[u8; 64]; 8]
 // Digests one after the other.
 fn flat(digests: [[u8; 64]; 8]) -> [u8; 512]
     requires { ⌜ ((k : ℕ) → k < length digests → length (getD digests k []) ≡ 64) ⌝ }
-    ensures { λ r. ⌜ r ≡ joined digests ⌝ }
+    ensures { λ r. ⌜ r ≡ flatten digests ⌝ }
 {
     let mut bytes = [0u8; 512];
     let mut i = 0;

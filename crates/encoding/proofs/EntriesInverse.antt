@@ -2,16 +2,17 @@
 -- Assumes nothing.
 use mathlib.Core.Path.{_≡_, refl, sym, ap, ap₂, _∙_}
 use mathlib.Core.Bool.{true, false, _&&_}
-use mathlib.Core.List.{List, [], _∷_}
+use mathlib.Core.List.{List, [], _∷_, map}
 use Prim.Native.Nat.{ℕ, zero, suc, _+_, _≤_, _<_}
 use native.Mathlib.Omega.{arith}
 use lib.Dec.{T, ltb, leb, eqb, ltb→lt, lt→ltb, leb→le, le→leb}
 use lib.IntN.{ℤ, pos, negsuc}
 use lib.ListN.{length}
 use borrow.Author.Tests.{lt-ltb, le-ltb, eq-eqb, ne-eqb, ltb-true, ltb-false, eqb-true, eqb-false}
+use Rattle.algebra.specs.Integer.{within}
 use Rattle.algebra.proofs.Test.{and-left, and-right, and-intro, by-test}
-use Rattle.encoding.specs.Bytes.{areBelow, areTernary}
-use Rattle.encoding.specs.Challenge.{indexOf, coefficientOf, increasing, coefficientsFrom, entriesFrom}
+use Rattle.encoding.specs.Bytes.{areBelow, increasing}
+use Rattle.encoding.specs.Challenge.{indexOf, coefficientOf, coefficientsFrom, entriesFrom}
 
 -- the two entries of an index
 module _ (i : ℕ) (h : i < 32768) where
@@ -37,30 +38,29 @@ entry-minus e t b = let h : 32768 ≤ e = ltb-false e 32768 t in omega arith
 -- ---- increasing indices
 
 module _ (n : ℕ) where
-  first-index : (from e : ℕ) (es : List ℕ) → T (increasing n from (e ∷ es)) → (from ≤ indexOf e) × (indexOf e < n) × T (increasing n (suc (indexOf e)) es)
-  first-index from e es t =
-      let r = and-right (leb from (indexOf e)) (ltb (indexOf e) n && increasing n (suc (indexOf e)) es) t in (
-        leb→le from (indexOf e) (and-left (leb from (indexOf e)) (ltb (indexOf e) n && increasing n (suc (indexOf e)) es) t),
-        ltb→lt (indexOf e) n (and-left (ltb (indexOf e) n) (increasing n (suc (indexOf e)) es) r),
-        and-right (ltb (indexOf e) n) (increasing n (suc (indexOf e)) es) r,
+  first-number : (from v : ℕ) (vs : List ℕ) → T (increasing n from (v ∷ vs)) → (from ≤ v) × (v < n) × T (increasing n (suc v) vs)
+  first-number from v vs t =
+      let r = and-right (leb from v) (ltb v n && increasing n (suc v) vs) t in (
+        leb→le from v (and-left (leb from v) (ltb v n && increasing n (suc v) vs) t),
+        ltb→lt v n (and-left (ltb v n) (increasing n (suc v) vs) r),
+        and-right (ltb v n) (increasing n (suc v) vs) r,
       )
 
-  increasing-from : (from e : ℕ) (es : List ℕ) → from ≤ indexOf e → indexOf e < n → T (increasing n (suc (indexOf e)) es) → T (increasing n from (e ∷ es))
-  increasing-from from e es h l t =
-      and-intro (leb from (indexOf e)) (ltb (indexOf e) n && increasing n (suc (indexOf e)) es) (le→leb from (indexOf e) h)
-      (and-intro (ltb (indexOf e) n) (increasing n (suc (indexOf e)) es) (lt→ltb (indexOf e) n l) t)
+  increasing-from : (from v : ℕ) (vs : List ℕ) → from ≤ v → v < n → T (increasing n (suc v) vs) → T (increasing n from (v ∷ vs))
+  increasing-from from v vs h l t =
+      and-intro (leb from v) (ltb v n && increasing n (suc v) vs) (le→leb from v h) (and-intro (ltb v n) (increasing n (suc v) vs) (lt→ltb v n l) t)
 
   -- a lower bound may be lowered
-  lowered : (i : ℕ) (es : List ℕ) → T (increasing n (suc i) es) → T (increasing n i es)
+  lowered : (i : ℕ) (vs : List ℕ) → T (increasing n (suc i) vs) → T (increasing n i vs)
   lowered i [] t = tt
-  lowered i (e ∷ es) t = let (h, l, r) = first-index (suc i) e es t in increasing-from i e es (omega arith) l r
+  lowered i (v ∷ vs) t = let (h, l, r) = first-number (suc i) v vs t in increasing-from i v vs (omega arith) l r
 
-  put-in : (i e : ℕ) (es : List ℕ) → indexOf e ≡ i → i < n → T (increasing n (suc i) es) → T (increasing n i (e ∷ es))
-  put-in i e es q h t = increasing-from i e es (omega arith) (omega arith) (rw q t)
+  put-in : (i e : ℕ) (es : List ℕ) → indexOf e ≡ i → i < n → T (increasing n (suc i) (map indexOf es)) → T (increasing n i (map indexOf (e ∷ es)))
+  put-in i e es q h t = increasing-from i (indexOf e) (map indexOf es) (omega arith) (omega arith) (rw q t)
 
-  pub entries-increasing : n ≤ 32768 → (i : ℕ) (c : List ℤ) → i + length c ≤ n → T (increasing n i (entriesFrom i c))
+  pub entries-increasing : n ≤ 32768 → (i : ℕ) (c : List ℤ) → i + length c ≤ n → T (increasing n i (map indexOf (entriesFrom i c)))
   entries-increasing b i [] h = tt
-  entries-increasing b i (pos zero ∷ c) h = lowered i (entriesFrom (suc i) c) (entries-increasing b (suc i) c (omega arith))
+  entries-increasing b i (pos zero ∷ c) h = lowered i (map indexOf (entriesFrom (suc i) c)) (entries-increasing b (suc i) c (omega arith))
   entries-increasing b i (pos (suc a) ∷ c) h =
       put-in i i (entriesFrom (suc i) c) (index-plus i (omega arith)) (omega arith) (entries-increasing b (suc i) c (omega arith))
   entries-increasing b i (negsuc a ∷ c) h =
@@ -81,26 +81,26 @@ module _ (n i k : ℕ) where
   here : (e : ℕ) (es : List ℕ) → indexOf e ≡ i → coefficientsFrom i (suc k) (e ∷ es) ≡ coefficientOf e ∷ coefficientsFrom (suc i) k es
   here e es q = rw (eq-eqb (indexOf e) i q)
 
-  later : (es : List ℕ) → T (increasing n (suc i) es) → coefficientsFrom i (suc k) es ≡ pos 0 ∷ coefficientsFrom (suc i) k es
+  later : (es : List ℕ) → T (increasing n (suc i) (map indexOf es)) → coefficientsFrom i (suc k) es ≡ pos 0 ∷ coefficientsFrom (suc i) k es
   later [] t = refl
-  later (e ∷ es) t = let (h, l, r) = first-index n (suc i) e es t in rw (ne-eqb (indexOf e) i (λ q. omega arith))
+  later (e ∷ es) t = let (h, l, r) = first-number n (suc i) (indexOf e) (map indexOf es) t in rw (ne-eqb (indexOf e) i (λ q. omega arith))
 
 module _ (n : ℕ) (b : n ≤ 32768) where
-  pub coefficients-of-entries : (i : ℕ) (c : List ℤ) → i + length c ≤ n → T (areTernary c) → coefficientsFrom i (length c) (entriesFrom i c) ≡ c
+  pub coefficients-of-entries : (i : ℕ) (c : List ℤ) → i + length c ≤ n → T (within 1 c) → coefficientsFrom i (length c) (entriesFrom i c) ≡ c
   coefficients-of-entries i [] h t = refl
   coefficients-of-entries i (pos zero ∷ c) h t =
       later n i (length c) (entriesFrom (suc i) c) (entries-increasing n b (suc i) c (omega arith))
       ∙ ap (λ (l : List ℤ). pos 0 ∷ l) (coefficients-of-entries (suc i) c (omega arith) t)
   coefficients-of-entries i (pos (suc a) ∷ c) h t =
-      let q : suc a ≤ 1 = leb→le (suc a) 1 (and-left (leb (suc a) 1) (areTernary c) t) in
+      let q : suc a ≤ 1 = leb→le (suc a) 1 (and-left (leb (suc a) 1) (within 1 c) t) in
       here n i (length c) i (entriesFrom (suc i) c) (index-plus i (omega arith))
       ∙ ap₂ (λ (x : ℤ) (l : List ℤ). x ∷ l) (coefficient-plus i (omega arith) ∙ ap pos (omega arith))
-      (coefficients-of-entries (suc i) c (omega arith) (and-right (leb (suc a) 1) (areTernary c) t))
+      (coefficients-of-entries (suc i) c (omega arith) (and-right (leb (suc a) 1) (within 1 c) t))
   coefficients-of-entries i (negsuc a ∷ c) h t =
-      let q : suc a ≤ 1 = leb→le (suc a) 1 (and-left (leb (suc a) 1) (areTernary c) t) in
+      let q : suc a ≤ 1 = leb→le (suc a) 1 (and-left (leb (suc a) 1) (within 1 c) t) in
       here n i (length c) (i + 32768) (entriesFrom (suc i) c) (index-minus i (omega arith))
       ∙ ap₂ (λ (x : ℤ) (l : List ℤ). x ∷ l) (coefficient-minus i (omega arith) ∙ ap negsuc (omega arith))
-      (coefficients-of-entries (suc i) c (omega arith) (and-right (leb (suc a) 1) (areTernary c) t))
+      (coefficients-of-entries (suc i) c (omega arith) (and-right (leb (suc a) 1) (within 1 c) t))
 
 -- ---- the entries of entries' challenge
 
@@ -111,16 +111,16 @@ module _ (i : ℕ) (c : List ℤ) where
       (λ t. let x : i ≡ e = sym q ∙ entry-plus e t in rw t (ap (λ (y : ℕ). y ∷ entriesFrom (suc i) c) x))
       (λ t. let x : i + 32768 ≡ e = ap (λ (y : ℕ). y + 32768) (sym q) ∙ entry-minus e t b in rw t (ap (λ (y : ℕ). y ∷ entriesFrom (suc i) c) x))
 
-pub entries-of-coefficients : (k i n : ℕ) (es : List ℕ) → n ≡ i + k → T (increasing n i es) → T (areBelow 65536 es) → entriesFrom i (coefficientsFrom i k es) ≡ es
+pub entries-of-coefficients : (k i n : ℕ) (es : List ℕ) → n ≡ i + k → T (increasing n i (map indexOf es)) → T (areBelow 65536 es) → entriesFrom i (coefficientsFrom i k es) ≡ es
 entries-of-coefficients zero i n [] s t b = refl
-entries-of-coefficients zero i n (e ∷ es) s t b = let (h, l, r) = first-index n i e es t in absurd (omega arith)
+entries-of-coefficients zero i n (e ∷ es) s t b = let (h, l, r) = first-number n i (indexOf e) (map indexOf es) t in absurd (omega arith)
 entries-of-coefficients (suc k) i n [] s t b = entries-of-coefficients k (suc i) n [] (omega arith) tt tt
 entries-of-coefficients (suc k) i n (e ∷ es) s t b =
-    let (h, l, r) = first-index n i e es t in
+    let (h, l, r) = first-number n i (indexOf e) (map indexOf es) t in
     let f : e < 65536 = ltb→lt e 65536 (and-left (ltb e 65536) (areBelow 65536 es) b) in
     by-test (eqb (indexOf e) i)
     (λ q. let x : indexOf e ≡ i = eqb-true (indexOf e) i q in
     rw q (entry-back i (coefficientsFrom (suc i) k es) e f x
     ∙ ap (λ (y : List ℕ). e ∷ y) (entries-of-coefficients k (suc i) n es (omega arith) (rw x at r) (and-right (ltb e 65536) (areBelow 65536 es) b))))
     (λ q. let x = eqb-false (indexOf e) i q in
-    rw q (entries-of-coefficients k (suc i) n (e ∷ es) (omega arith) (increasing-from n (suc i) e es (omega arith) l r) b))
+    rw q (entries-of-coefficients k (suc i) n (e ∷ es) (omega arith) (increasing-from n (suc i) (indexOf e) (map indexOf es) (omega arith) l r) b))

@@ -2,7 +2,7 @@
 -- Assumes nothing.
 use mathlib.Core.Path.{_≡_, refl, sym, ap, ap₂, _∙_}
 use mathlib.Core.Bool.{Bool}
-use mathlib.Core.List.{List, [], _∷_, _++_, map, append-assoc, append-nil}
+use mathlib.Core.List.{List, [], _∷_, _++_, map, append-assoc, append-nil, flatten}
 use Prim.Native.Nat.{ℕ, zero, suc, _+_, _-_, _*_, _/_, _%_, _^_, _≤_, _<_}
 use native.Mathlib.Nat.{mul-zero, mul-suc, add-comm, pow-zero, pow-suc, div-add-mod', div-lt-iff-lt-mul}
 use native.Mathlib.Omega.{arith}
@@ -16,7 +16,7 @@ use borrow.Author.Tests.{lt-ltb, le-ltb}
 use Rattle.algebra.specs.All.{all}
 use Rattle.algebra.proofs.All.{all-at}
 use Rattle.algebra.proofs.Test.{and-left, and-right, and-intro, by-test}
-use Rattle.encoding.specs.Bytes.{bytesOf, valueAfter, valueOf, numbers, encoded, bits16, signed16, areBelow}
+use Rattle.encoding.specs.Bytes.{bigEndian, valueAfter, valueOf, numbers, encoded, bits16, signed16, areBelow}
 use Rattle.encoding.proofs.Writing.{length-bytes, length-encoded}
 
 -- ---- lists
@@ -45,26 +45,26 @@ value-append : (v : ℕ) (xs : List ℕ) (x : ℕ) → valueAfter v (xs ++ (x �
 value-append v [] x = refl
 value-append v (y ∷ ys) x = value-append (v * 256 + y) ys x
 
-value-of-bytes : (w v : ℕ) → v < 256 ^ w → valueOf (bytesOf w v) ≡ v
-unfolding bytesOf
+value-of-bytes : (w v : ℕ) → v < 256 ^ w → valueOf (bigEndian w v) ≡ v
+unfolding bigEndian
 value-of-bytes zero v h = omega (arith, pow-zero 256)
 value-of-bytes (suc w) v h =
     let l : v / 256 < 256 ^ w = div-lt-iff-lt-mul {k = 256} (lit< tt) .1 (rw (pow-suc 256 w) at h) in
-    value-append 0 (bytesOf w (v / 256)) (v % 256) ∙ ap (λ (x : ℕ). x * 256 + v % 256) (value-of-bytes w (v / 256) l) ∙ div-add-mod' v 256
+    value-append 0 (bigEndian w (v / 256)) (v % 256) ∙ ap (λ (x : ℕ). x * 256 + v % 256) (value-of-bytes w (v / 256) l) ∙ div-add-mod' v 256
 
 byte-at : (xs : List ℕ) (i : ℕ) → i < length xs → T (areBelow 256 xs) → getD xs i 0 < 256
 byte-at xs i h t = ltb→lt (getD xs i 0) 256 (all-at (λ (y : ℕ). ltb y 256) xs 0 t i h)
 
-bytes-of-value : (w : ℕ) (xs : List ℕ) → w ≤ length xs → T (areBelow 256 xs) → bytesOf w (valueOf (take w xs)) ≡ take w xs
-unfolding bytesOf
+bytes-of-value : (w : ℕ) (xs : List ℕ) → w ≤ length xs → T (areBelow 256 xs) → bigEndian w (valueOf (take w xs)) ≡ take w xs
+unfolding bigEndian
 bytes-of-value zero xs h t = refl
 bytes-of-value (suc w) xs h t =
     let x : ℕ = getD xs w 0 in
     let v : ℕ = valueOf (take w xs) in
     let b : x < 256 = byte-at xs w h t in
     let e : valueOf (take (suc w) xs) ≡ v * 256 + x = ap valueOf (take-suc xs w 0 h) ∙ value-append 0 (take w xs) x in
-    ap (bytesOf (suc w)) e
-    ∙ ap₂ (λ (q r : ℕ). bytesOf w q ++ (r ∷ [])) (digits-div v b) (digits-mod v b)
+    ap (bigEndian (suc w)) e
+    ∙ ap₂ (λ (q r : ℕ). bigEndian w q ++ (r ∷ [])) (digits-div v b) (digits-mod v b)
     ∙ ap (λ (l : List ℕ). l ++ (x ∷ [])) (bytes-of-value w xs (omega arith) t) ∙ sym (take-suc xs w 0 h)
 
 value-below : (w : ℕ) (xs : List ℕ) → w ≤ length xs → T (areBelow 256 xs) → valueOf (take w xs) < 256 ^ w
@@ -77,10 +77,10 @@ value-below (suc w) xs h t =
 
 module _ (w : ℕ) where
   pub numbers-of-encoded : (vs rest : List ℕ) → T (areBelow (256 ^ w) vs) → numbers w (length vs) (encoded w vs ++ rest) ≡ vs
-  unfolding numbers encoded
+  unfolding numbers encoded flatten
   numbers-of-encoded [] rest t = refl
   numbers-of-encoded (v ∷ vs) rest t =
-      let b : List ℕ = bytesOf w v in
+      let b : List ℕ = bigEndian w v in
       let more : List ℕ = encoded w vs ++ rest in
       let f : T (ltb v (256 ^ w)) = and-left (ltb v (256 ^ w)) (areBelow (256 ^ w) vs) t in
       ap (λ (l : List ℕ). numbers w (suc (length vs)) l) (append-assoc b (encoded w vs) rest)
@@ -89,7 +89,7 @@ module _ (w : ℕ) where
       (numbers-of-encoded vs rest (and-right (ltb v (256 ^ w)) (areBelow (256 ^ w) vs) t))
 
   pub encoded-of-numbers : (count : ℕ) (xs : List ℕ) → w * count ≤ length xs → T (areBelow 256 xs) → encoded w (numbers w count xs) ≡ take (w * count) xs
-  unfolding numbers encoded
+  unfolding numbers encoded flatten
   encoded-of-numbers zero xs h t = rw (mul-zero w)
   encoded-of-numbers (suc n) xs h t =
       let e : w * suc n ≡ w + w * n = mul-suc w n ∙ add-comm (w * n) w in

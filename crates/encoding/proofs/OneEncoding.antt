@@ -10,9 +10,10 @@ use lib.IntN.{ℤ, pos, negsuc, natAbs}
 use lib.ListN.{length, getD, take, drop, length-append, length-drop, length-map}
 use lib.Signed.{mag}
 use borrow.Author.Tests.{ne-eqb, eqb-true}
+use Rattle.algebra.specs.Integer.{within}
 use Rattle.algebra.proofs.Test.{by-test}
 use Rattle.parameters.specs.declared.Params.{Params}
-use Rattle.encoding.specs.Bytes.{numbers, encoded, bits16, signed16, areBelow, areTernary}
+use Rattle.encoding.specs.Bytes.{numbers, encoded, bits16, signed16, areBelow}
 use Rattle.encoding.specs.Challenge.{areEntries, challengeOf, entriesOf}
 use Rattle.encoding.specs.Encoding.{secretKeySize, isKeyByte, keyCoefficient, keyByte, secretKey, isKey, keyOf, publicKeySize, publicKey, PublicKeyRange, pointsOf, evaluationsOf, signatureSize, signatureBytes, SignatureRange, entriesRead, pointRead}
 use Rattle.encoding.proofs.Writing.{length-encoded}
@@ -56,11 +57,11 @@ bytes-back [] = refl
 bytes-back (x ∷ xs) = ap₂ (λ (y : ℕ) (l : List ℕ). y ∷ l) (byte-back x) (bytes-back xs)
 
 -- a key that is written has bytes that are allowed, and is read back
-pub key-accepted : (s : ℕ) (f : List ℤ) → T (areTernary f) → T (isKey (secretKey s f))
+pub key-accepted : (s : ℕ) (f : List ℤ) → T (within 1 f) → T (isKey (secretKey s f))
 unfolding isKey secretKey
 key-accepted s f t = inverse.all-map keyByte (λ (z : ℤ). leb (natAbs z) 1) isKeyByte byte-of-key f t
 
-pub key-read-back : (s : ℕ) (f : List ℤ) → T (areTernary f) → keyOf (secretKey s f) ≡ f
+pub key-read-back : (s : ℕ) (f : List ℤ) → T (within 1 f) → keyOf (secretKey s f) ≡ f
 unfolding keyOf secretKey
 key-read-back s f t = inverse.map-back keyByte keyCoefficient (λ (z : ℤ). leb (natAbs z) 1) coefficient-back f t
 
@@ -163,7 +164,7 @@ entries-accepted c h = entries-inverse.entries-increasing (length c) h 0 c (omeg
 pub entries-below : (c : List ℤ) → length c ≤ 32768 → T (areBelow 65536 (entriesOf c))
 entries-below c h = entries-inverse.entries-below 0 c (omega arith)
 
-pub challenge-read-back : (c : List ℤ) → length c ≤ 32768 → T (areTernary c) → challengeOf (length c) (entriesOf c) ≡ c
+pub challenge-read-back : (c : List ℤ) → length c ≤ 32768 → T (within 1 c) → challengeOf (length c) (entriesOf c) ≡ c
 challenge-read-back c h t = entries-inverse.coefficients-of-entries (length c) h 0 c (omega arith) t
 
 -- entries that are accepted are those of their challenge

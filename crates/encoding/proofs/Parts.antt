@@ -1,14 +1,14 @@
 -- Parts of a list: their lengths, the numbers in parts of bytes, and parts stored and left out.
 -- Assumes nothing.
 use mathlib.Core.Path.{_≡_, refl, sym, ap, ap₂, _∙_}
-use mathlib.Core.List.{List, [], _∷_, _++_, append-assoc}
+use mathlib.Core.List.{List, [], _∷_, _++_, append-assoc, flatten}
 use Prim.Native.Nat.{ℕ, zero, suc, _+_, _-_, _*_, _≤_, _<_}
 use native.Mathlib.Nat.{le-of-suc-le-suc, not-suc-le-zero, zero-mul, suc-mul, mul-suc, add-mul, add-comm}
 use native.Mathlib.Omega.{arith}
 use lib.ListN.{length, getD, take, drop, length-drop, drop-of-length-le}
 use lib.Seq.{take-all, take-take, take-nil, length-take-le, drop-drop, drop-at, take-add, take-at}
 use borrow.Rule.Slice.PartMut.{putMid}
-use Rattle.encoding.specs.Bytes.{valueOf, numbers, joined, parts}
+use Rattle.encoding.specs.Bytes.{valueOf, numbers, parts}
 
 -- all from element k on
 pub rest : {A : Type 0} (l : List A) (k : ℕ) → take (length l - k) (drop k l) ≡ drop k l
@@ -47,10 +47,11 @@ times : (n c : ℕ) → suc c * n ≡ n + c * n
 times n c = suc-mul c n ∙ add-comm (c * n) n
 
 module _ {A : Type 0} (n : ℕ) where
-  -- the parts joined are the list's front
-  pub joined-parts : (count : ℕ) (l : List A) → joined (parts n count l) ≡ take (count * n) l
-  joined-parts zero l = rw (zero-mul n)
-  joined-parts (suc c) l = rw (times n c, take-add) (ap (λ (r : List A). take n l ++ r) (joined-parts c (drop n l)))
+  -- joined they are the list's front
+  pub flatten-parts : (count : ℕ) (l : List A) → flatten (parts n count l) ≡ take (count * n) l
+  unfolding flatten
+  flatten-parts zero l = rw (zero-mul n)
+  flatten-parts (suc c) l = rw (times n c, take-add) (ap (λ (r : List A). take n l ++ r) (flatten-parts c (drop n l)))
 
   pub length-parts : (count : ℕ) (l : List A) → length (parts n count l) ≡ count
   length-parts zero l = refl

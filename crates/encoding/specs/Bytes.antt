@@ -1,19 +1,19 @@
 -- Numbers as bytes: many-byte numbers have the high byte first, and signed 16-bit numbers are two's complement.
 -- Assumes nothing.
-use mathlib.Core.Bool.{Bool}
-use mathlib.Core.List.{List, [], _∷_, _++_, map}
+use mathlib.Core.Bool.{Bool, true, _&&_}
+use mathlib.Core.List.{List, [], _∷_, _++_, map, flatten}
 use Prim.Native.Nat.{ℕ, zero, suc, _+_, _-_, _*_, _/_, _%_}
 use lib.Dec.{ltb, leb}
-use lib.IntN.{ℤ, pos, negsuc, natAbs}
+use lib.IntN.{ℤ, pos, negsuc}
 use lib.ListN.{take, drop}
 use lib.Signed.{mag}
 use Rattle.algebra.specs.All.{all}
 use Rattle.algebra.specs.Choice.{pick}
 
 -- v in w bytes
-unfoldable pub bytesOf : ℕ → ℕ → List ℕ
-bytesOf zero v = []
-bytesOf (suc w) v = bytesOf w (v / 256) ++ (v % 256 ∷ [])
+unfoldable pub bigEndian : ℕ → ℕ → List ℕ
+bigEndian zero v = []
+bigEndian (suc w) v = bigEndian w (v / 256) ++ (v % 256 ∷ [])
 
 -- the number that follows v when the bytes come after those of v
 abbrev pub valueAfter : ℕ → List ℕ → ℕ
@@ -29,18 +29,13 @@ abbrev pub parts : {A : Type 0} → ℕ → ℕ → List A → List (List A)
 parts size zero l = []
 parts size (suc count) l = take size l ∷ parts size count (drop size l)
 
--- lists one after the other
-abbrev pub joined : {A : Type 0} → List (List A) → List A
-joined [] = []
-joined (l ∷ ls) = l ++ joined ls
-
 -- `count` numbers of w bytes each, read from the front
 unfoldable pub numbers : ℕ → ℕ → List ℕ → List ℕ
 numbers w count xs = map valueOf (parts w count xs)
 
 -- the numbers, w bytes each
 unfoldable pub encoded : ℕ → List ℕ → List ℕ
-encoded w vs = joined (map (bytesOf w) vs)
+encoded w vs = flatten (map (bigEndian w) vs)
 
 -- a signed 16-bit number as 16 bits, and back
 abbrev pub bits16 : ℤ → ℕ
@@ -60,6 +55,7 @@ areBelow n vs = all (λ (v : ℕ). ltb v n) vs
 abbrev pub areSigned16 : List ℤ → Bool
 areSigned16 zs = all (λ (z : ℤ). ltb (mag z) 32768) zs
 
--- each number is -1, 0 or 1
-abbrev pub areTernary : List ℤ → Bool
-areTernary zs = all (λ (z : ℤ). leb (natAbs z) 1) zs
+-- the numbers are strictly increasing, each at least `from` and below n
+abbrev pub increasing : ℕ → ℕ → List ℕ → Bool
+increasing n from [] = true
+increasing n from (v ∷ vs) = leb from v && (ltb v n && increasing n (suc v) vs)

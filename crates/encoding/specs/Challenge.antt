@@ -1,11 +1,12 @@
 -- A challenge in its encoded form: an entry for each coefficient that is not 0, the index in the low 15 bits, top bit 1 for -1.
 -- Assumes nothing.
-use mathlib.Core.Bool.{Bool, true, _&&_}
-use mathlib.Core.List.{List, [], _∷_}
+use mathlib.Core.Bool.{Bool}
+use mathlib.Core.List.{List, [], _∷_, map}
 use Prim.Native.Nat.{ℕ, zero, suc, _+_, _%_}
-use lib.Dec.{ltb, leb, eqb}
+use lib.Dec.{ltb, eqb}
 use lib.IntN.{ℤ, pos, negsuc}
 use Rattle.algebra.specs.Choice.{pick}
+use Rattle.encoding.specs.Bytes.{increasing}
 
 -- an entry's index and coefficient
 abbrev pub indexOf : ℕ → ℕ
@@ -24,14 +25,9 @@ abbrev pub entryOf : ℕ → ℤ → ℕ
 entryOf i (pos a) = i
 entryOf i (negsuc a) = i + 32768
 
--- the indices are increasing, each at least `from` and below n
-abbrev pub increasing : ℕ → ℕ → List ℕ → Bool
-increasing n from [] = true
-increasing n from (e ∷ es) = leb from (indexOf e) && (ltb (indexOf e) n && increasing n (suc (indexOf e)) es)
-
 -- the entries are allowed: challenge indices below N and increasing
 abbrev pub areEntries : ℕ → List ℕ → Bool
-areEntries n es = increasing n 0 es
+areEntries n es = increasing n 0 (map indexOf es)
 
 -- the coefficients from index i on, n of them, with these entries
 abbrev pub coefficientsFrom : ℕ → ℕ → List ℕ → List ℤ

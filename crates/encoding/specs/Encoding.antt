@@ -1,16 +1,16 @@
 -- Document 01, "Encodings": the three encodings, written and read. An encoding's first byte is its set, s below.
 -- Assumes nothing.
 use mathlib.Core.Path.{_≡_}
-use mathlib.Core.Bool.{Bool, true, _&&_, _||_}
+use mathlib.Core.Bool.{Bool, _||_}
 use mathlib.Core.List.{List, [], _∷_, _++_, map}
 use Prim.Native.Nat.{ℕ, _+_, _*_}
-use lib.Dec.{T, ltb, eqb}
+use lib.Dec.{T, eqb}
 use lib.IntN.{ℤ, pos, negsuc}
 use lib.ListN.{length, drop}
 use Rattle.algebra.specs.Choice.{pick}
 use Rattle.algebra.specs.All.{all}
 use Rattle.parameters.specs.declared.Params.{Params}
-use Rattle.encoding.specs.Bytes.{numbers, encoded, bits16, signed16, areBelow, areSigned16}
+use Rattle.encoding.specs.Bytes.{numbers, encoded, bits16, signed16, areBelow, areSigned16, increasing}
 
 -- ---- a secret key: the set byte, then N bytes, hex 00, 01 or FF for -1
 
@@ -45,18 +45,13 @@ publicKeySize p = 1 + 2 * p .t + 3 * p .t
 unfoldable pub publicKey : ℕ → List ℕ → List ℕ → List ℕ
 publicKey s points evaluations = s ∷ (encoded 2 points ++ encoded 3 evaluations)
 
--- strictly increasing, each above `last` and below n
-abbrev pub rising : ℕ → ℕ → List ℕ → Bool
-rising n last [] = true
-rising n last (j ∷ js) = ltb last j && (ltb j n && rising n j js)
-
 -- exponents strictly increasing, each in 1..N-1
 abbrev pub arePoints : Params → List ℕ → Bool
-arePoints p js = rising (p .n) 0 js
+arePoints p js = increasing (p .n) 1 js
 
 -- evaluations below q
 abbrev pub areEvaluations : Params → List ℕ → Bool
-areEvaluations p vs = all (λ (v : ℕ). ltb v (p .q)) vs
+areEvaluations p vs = areBelow (p .q) vs
 
 -- lists that a public key has room for
 pub record PublicKeyRange (p : Params) (points evaluations : List ℕ) : Type 0 where

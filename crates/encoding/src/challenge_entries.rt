@@ -1,10 +1,9 @@
 // A challenge as entries: an index in the low 15 bits, top bit 1 for -1.
 ghost use mathlib.Core.Path.{_≡_};
-ghost use mathlib.Core.Bool.{_&&_};
 ghost use Prim.Native.Nat.{_+_, _<_, _≤_};
-ghost use lib.Dec.{ltb, leb};
 ghost use lib.ListN.{length, drop};
 ghost use Rattle.encoding.specs.Challenge.{indexOf, coefficientOf, coefficientAt, entryOf, areEntries, challengeOf, entriesOf};
+use crate::increasing::is_next;
 
 fn index_of(entry: u16) -> usize
     ensures { λ r. ⌜ r ≡ indexOf entry ⌝ }
@@ -18,13 +17,6 @@ fn coefficient_of(entry: u16) -> i8
     if entry < 32768 { 1 } else { -1 }
 }
 
-// Whether an index is in from..n-1.
-fn is_next_index(from: usize, index: usize, n: usize) -> bool
-    ensures { λ r. ⌜ r ≡ leb from index && ltb index n ⌝ }
-{
-    (from <= index) & (index < n)
-}
-
 // Whether these are the entries of a challenge of n coefficients.
 pub fn are_entries_of(entries: &[u16], n: usize) -> bool
     ensures { λ r. ⌜ r ≡ areEntries n (now (entries .entry)) ⌝ }
@@ -34,7 +26,7 @@ pub fn are_entries_of(entries: &[u16], n: usize) -> bool
     let mut k: usize = 0;
     while k < entries.len() {
         let index = index_of(entries[k]);
-        ok = ok & is_next_index(from, index, n);
+        ok = ok & is_next(from, index, n);
         from = index + 1;
         k += 1;
     }

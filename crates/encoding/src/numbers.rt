@@ -3,7 +3,7 @@ ghost use mathlib.Core.Path.{_≡_};
 ghost use Prim.Native.Nat.{_+_, _*_, _<_, _≤_};
 ghost use lib.ListN.{length, take, drop};
 ghost use lib.Seq.{sets};
-ghost use Rattle.encoding.specs.Bytes.{bytesOf, valueOf, numbers, encoded};
+ghost use Rattle.encoding.specs.Bytes.{bigEndian, valueOf, numbers, encoded};
 
 fn wide(x: u8) -> u32
     ensures value { λ r. ⌜ r ≡ x ⌝ }
@@ -31,7 +31,7 @@ fn triple_at(bytes: &[u8], at: usize) -> u32
 // Stores a number's two bytes from `at` on.
 pub fn put_word(out: &mut [u8], at: usize, value: u16)
     requires { ⌜ at + 2 ≤ length (now out) ⌝ }
-    ensures { λ _. ⌜ now (out .exit) ≡ sets (now (out .entry)) at (bytesOf 2 value) ⌝ }
+    ensures { λ _. ⌜ now (out .exit) ≡ sets (now (out .entry)) at (bigEndian 2 value) ⌝ }
 {
     out[at] = (value / 256 % 256) as u8;
     out[at + 1] = (value % 256) as u8;
@@ -40,7 +40,7 @@ pub fn put_word(out: &mut [u8], at: usize, value: u16)
 // Stores a number's three bytes from `at` on.
 fn put_triple(out: &mut [u8], at: usize, value: u32)
     requires { ⌜ at + 3 ≤ length (now out) ⌝ }
-    ensures { λ _. ⌜ now (out .exit) ≡ sets (now (out .entry)) at (bytesOf 3 value) ⌝ }
+    ensures { λ _. ⌜ now (out .exit) ≡ sets (now (out .entry)) at (bigEndian 3 value) ⌝ }
 {
     out[at] = (value / 256 / 256 % 256) as u8;
     out[at + 1] = (value / 256 % 256) as u8;

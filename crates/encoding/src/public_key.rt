@@ -1,29 +1,20 @@
 // The tests of what is read from a public key: its exponents and its evaluations.
 ghost use mathlib.Core.Path.{_≡_};
-ghost use mathlib.Core.Bool.{_&&_};
-ghost use Prim.Native.Nat.{ℕ};
 ghost use lib.Dec.{ltb};
-ghost use Rattle.algebra.specs.All.{all};
-ghost use Rattle.encoding.specs.Encoding.{rising};
-
-// Whether an exponent is above the one before it and below n.
-fn is_next_point(last: usize, j: usize, n: usize) -> bool
-    ensures { λ r. ⌜ r ≡ ltb last j && ltb j n ⌝ }
-{
-    (last < j) & (j < n)
-}
+ghost use Rattle.encoding.specs.Bytes.{areBelow, increasing};
+use crate::increasing::is_next;
 
 // Whether the exponents are strictly increasing, each in 1..n-1.
 pub fn are_points(points: &[u16], n: usize) -> bool
-    ensures { λ r. ⌜ r ≡ rising n 0 (now (points .entry)) ⌝ }
+    ensures { λ r. ⌜ r ≡ increasing n 1 (now (points .entry)) ⌝ }
 {
     let mut ok = true;
-    let mut last: usize = 0;
+    let mut from: usize = 1;
     let mut i: usize = 0;
     while i < points.len() {
         let j = points[i] as usize;
-        ok = ok & is_next_point(last, j, n);
-        last = j;
+        ok = ok & is_next(from, j, n);
+        from = j + 1;
         i += 1;
     }
     ok
@@ -37,7 +28,7 @@ fn is_below(value: u32, q: u32) -> bool
 
 // Whether each value is below q.
 pub fn are_below(values: &[u32], q: u32) -> bool
-    ensures { λ r. ⌜ r ≡ all (λ (v : ℕ). ltb v q) (now (values .entry)) ⌝ }
+    ensures { λ r. ⌜ r ≡ areBelow q (now (values .entry)) ⌝ }
 {
     let mut ok = true;
     let mut i: usize = 0;

@@ -8,8 +8,8 @@ use Prim.Native.Nat.{ℕ}
 use lib.Dec.{eqb}
 use lib.IntN.{ℤ}
 use lib.ListN.{length}
+use Rattle.algebra.specs.Integer.{within}
 use Rattle.parameters.specs.declared.Params.{Params}
-use Rattle.polynomial.specs.Polynomial.{within}
 use Rattle.encoding.specs.Encoding.{secretKeySize, signatureSize, isKey, arePoints}
 use Rattle.entry_sign.specs.Sign.{areMasks, signRefusalIn}
 use Rattle.answers.proofs.Refusal.{step, end, equal-iff}

@@ -9,8 +9,8 @@ use lib.Dec.{T}
 use lib.IntN.{ℤ}
 use lib.ListN.{length, getD, drop, length-drop}
 use lib.Seq.{length-take-le, take-all}
+use Rattle.algebra.specs.Integer.{within}
 use Rattle.parameters.specs.declared.Params.{Params}
-use Rattle.polynomial.specs.Polynomial.{within}
 use Rattle.polynomial.proofs.Bound.{within-take, within-drop}
 use Rattle.encoding.specs.Bytes.{parts}
 use Rattle.encoding.proofs.Parts.{length-parts, parts-at}

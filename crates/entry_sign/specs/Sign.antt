@@ -9,9 +9,9 @@ use lib.Dec.{leb, eqb}
 use lib.IntN.{ℤ}
 use lib.ListN.{length, take, drop}
 use Rattle.algebra.specs.Choice.{pick}
+use Rattle.algebra.specs.Integer.{within}
 use Rattle.parameters.specs.declared.Params.{Params}
 use Rattle.parameters.specs.Sets.{isSet, setOf}
-use Rattle.polynomial.specs.Polynomial.{within}
 use Rattle.challenge.specs.Draw.{drawChallenge}
 use Rattle.encoding.specs.Encoding.{secretKeySize, signatureSize, arePoints, isKey, keyOf}
 use Rattle.scheme.specs.Scheme.{Drawer, Signed}

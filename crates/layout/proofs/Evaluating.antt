@@ -12,7 +12,7 @@ use Rattle.parameters.specs.Sets.{setOf}
 use Rattle.parameters.specs.Sound.{PowersOf}
 use Rattle.polynomial.specs.Evaluation.{Below, Evaluable}
 use Rattle.encoding.specs.Encoding.{arePoints}
-use Rattle.encoding.proofs.Testing.{rising-below}
+use Rattle.encoding.proofs.Testing.{increasing-below}
 use Rattle.parameters.proofs.Lookup.{lookup-sound, lookup-fitting, lookup-powers}
 
 pub lookup-evaluable : {p : Params} (s : ℕ) → s < 5 → p ≡ setOf s → (table : List ℕ) → PowersOf (setOf s) (take (setOf s .n) table) → (f : List ℤ) → length f ≡ p .n
@@ -21,4 +21,4 @@ lookup-evaluable s known is table t f size =
     record { sound = lookup-sound s known is; fitting = lookup-fitting s known is; table = lookup-powers s known is table t; size = size }
 
 pub points-below : (p : Params) (points : List ℕ) → arePoints p points ≡ true → Below (p .n) points
-points-below p points rise = rising-below (p .n) 0 points (true-holds rise)
+points-below p points rise = increasing-below (p .n) 1 points (true-holds rise)

@@ -12,7 +12,8 @@ use lib.ListN.{length, take, drop}
 use Rattle.algebra.proofs.All.{all-more}
 use Rattle.algebra.proofs.Test.{and-left, and-right, and-intro}
 use Rattle.algebra.proofs.Absolute.{abs-add, abs-neg, abs-mul}
-use Rattle.polynomial.specs.Polynomial.{coefficient, add, scale, neg, sub, push, lastOf, rotate, star, point, within, ternary, weight}
+use Rattle.algebra.specs.Integer.{within}
+use Rattle.polynomial.specs.Polynomial.{coefficient, add, scale, neg, sub, push, lastOf, rotate, star, point, ternary, weight}
 
 -- ---- the test, taken apart and put together
 within-head : (k : ℕ) (a : ℤ) (f : List ℤ) → T (within k (a ∷ f)) → natAbs a ≤ k

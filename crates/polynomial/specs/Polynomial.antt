@@ -4,10 +4,9 @@
 use mathlib.Core.Bool.{Bool}
 use mathlib.Core.List.{List, [], _∷_}
 use Prim.Native.Nat.{ℕ, _+_}
-use lib.Dec.{leb}
 use lib.IntN.{ℤ, pos, _+ℤ_, _*ℤ_, negℤ, natAbs}
 use lib.ListN.{getD}
-use Rattle.algebra.specs.All.{all}
+use Rattle.algebra.specs.Integer.{within}
 
 abbrev pub coefficient : List ℤ → ℕ → ℤ
 coefficient f i = getD f i (pos 0)
@@ -54,15 +53,11 @@ star f (a ∷ c) = add (scale a f) (star (rotate f) c)
 abbrev pub point : List ℤ → List ℤ → List ℤ → List ℤ
 point f c y = add (star f c) y
 
--- every coefficient is in -k..k
-abbrev pub within : ℕ → List ℤ → Bool
-within k = all (λ (a : ℤ). leb (natAbs a) k)
-
 -- a key has every coefficient in -1, 0, 1
 abbrev pub ternary : List ℤ → Bool
 ternary = within 1
 
--- the sum of the absolute values
+-- the sum of the absolute values: where each is -1, 0 or 1, the number of coefficients that are not 0
 abbrev pub weight : List ℤ → ℕ
 weight [] = 0
 weight (a ∷ f) = natAbs a + weight f

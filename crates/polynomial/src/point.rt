@@ -4,7 +4,8 @@ ghost use Prim.Native.Nat.{_<_, _≤_, _^_};
 ghost use lib.Dec.{T, leb};
 ghost use lib.IntN.{natAbs, _+ℤ_, _*ℤ_};
 ghost use lib.ListN.{length};
-ghost use Rattle.polynomial.specs.Polynomial.{add, scale, point, within, ternary};
+ghost use Rattle.algebra.specs.Integer.{within};
+ghost use Rattle.polynomial.specs.Polynomial.{add, scale, point, ternary};
 ghost use Rattle.polynomial.specs.Rotation.{rotations};
 
 fn wide(a: i16) -> i32

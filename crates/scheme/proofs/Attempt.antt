@@ -9,8 +9,9 @@ use Prim.Native.Nat.{ℕ, _-_}
 use lib.Dec.{T}
 use lib.IntN.{ℤ}
 use Rattle.algebra.specs.Choice.{pick}
+use Rattle.algebra.specs.Integer.{within}
 use Rattle.parameters.specs.declared.Params.{Params}
-use Rattle.polynomial.specs.Polynomial.{point, within}
+use Rattle.polynomial.specs.Polynomial.{point}
 use Rattle.polynomial.specs.Evaluation.{evaluations}
 use Rattle.scheme.specs.Scheme.{Drawer, Signature, withChallenge, attempt}
 

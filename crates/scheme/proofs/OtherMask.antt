@@ -9,9 +9,10 @@ use native.Mathlib.Omega.{arith}
 use lib.Dec.{T}
 use lib.IntN.{ℤ}
 use lib.ListN.{length}
+use Rattle.algebra.specs.Integer.{within}
 use Rattle.parameters.specs.declared.Params.{Params}
 use Rattle.parameters.specs.Sound.{Sound}
-use Rattle.polynomial.specs.Polynomial.{sub, star, within, ternary}
+use Rattle.polynomial.specs.Polynomial.{sub, star, ternary}
 use Rattle.polynomial.specs.Evaluation.{evaluations}
 use Rattle.polynomial.proofs.Length.{length-star, length-sub, length-point}
 use Rattle.polynomial.proofs.Linear.{add-of-sub, sub-of-add}

@@ -6,8 +6,9 @@ use mathlib.Core.Option.{some}
 use Prim.Native.Nat.{ℕ, _+_}
 use lib.Dec.{T}
 use lib.IntN.{ℤ}
+use Rattle.algebra.specs.Integer.{within}
 use Rattle.parameters.specs.declared.Params.{Params}
-use Rattle.polynomial.specs.Polynomial.{point, within, ternary}
+use Rattle.polynomial.specs.Polynomial.{point, ternary}
 use Rattle.polynomial.proofs.Bound.{point-within}
 use Rattle.scheme.specs.Scheme.{Drawer, Draws}
 

@@ -9,8 +9,9 @@ use Prim.Native.Nat.{ℕ, _-_, _≤_, _<_}
 use lib.IntN.{natAbs}
 use lib.ListN.{length}
 use Rattle.algebra.proofs.Test.{and-left, and-right, and-intro, holds-true, true-holds, by-test}
+use Rattle.algebra.specs.Integer.{within}
 use Rattle.parameters.specs.declared.Params.{Params}
-use Rattle.polynomial.specs.Polynomial.{coefficient, within}
+use Rattle.polynomial.specs.Polynomial.{coefficient}
 use Rattle.scheme.specs.Scheme.{Drawer, Signature, recovered, isDrawn, verdict}
 use Rattle.scheme.proofs.Within.{within-iff}
 use Rattle.scheme.proofs.Equal.{isDrawn-iff}

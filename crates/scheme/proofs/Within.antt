@@ -7,7 +7,8 @@ use lib.Dec.{T, leb, leb→le, le→leb}
 use lib.IntN.{ℤ, pos, natAbs}
 use lib.ListN.{length}
 use Rattle.algebra.proofs.All.{all-at, all-from}
-use Rattle.polynomial.specs.Polynomial.{coefficient, within}
+use Rattle.algebra.specs.Integer.{within}
+use Rattle.polynomial.specs.Polynomial.{coefficient}
 
 pub within-iff : (k : ℕ) (z : List ℤ) → T (within k z) ↔ ((i : ℕ) → i < length z → natAbs (coefficient z i) ≤ k)
 within-iff k z = (

@@ -7,8 +7,8 @@ use Prim.Native.Nat.{ℕ}
 use lib.Dec.{T}
 use lib.IntN.{ℤ}
 use lib.ListN.{length}
+use Rattle.algebra.specs.Integer.{within}
 use Rattle.parameters.specs.declared.Params.{Params}
-use Rattle.polynomial.specs.Polynomial.{within}
 use Rattle.scheme.specs.Scheme.{Drawer, Signature, signing}
 
 -- exactly one: it does, and whatever does is it

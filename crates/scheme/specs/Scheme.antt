@@ -10,9 +10,9 @@ use lib.Dec.{T, eqb}
 use lib.IntN.{ℤ, pos, negsuc, _-ℤ_}
 use lib.ListN.{length}
 use Rattle.algebra.specs.Choice.{pick}
-use Rattle.algebra.specs.Integer.{residue}
+use Rattle.algebra.specs.Integer.{residue, within}
 use Rattle.parameters.specs.declared.Params.{Params}
-use Rattle.polynomial.specs.Polynomial.{point, within, ternary, weight}
+use Rattle.polynomial.specs.Polynomial.{point, ternary, weight}
 use Rattle.polynomial.specs.Evaluation.{evaluation, evaluations}
 
 -- a way to draw: of a set, a commitment and a message a challenge, or none where the pool is spent
@@ -31,13 +31,13 @@ pub record Signed : Type 0 where
   pub signature : Signature
 
 -- the signature with challenge c, key f and mask y, where all of z = f ⋆ c + y is in -(k-b)..(k-b)
-abbrev pub inRange : Params → List ℤ → List ℤ → List ℤ → Option Signature
-inRange p f y c = pick (within (p .k - p .b) (point f c y)) (some (record { c = c; z = point f c y })) none
+abbrev pub signatureInRange : Params → List ℤ → List ℤ → List ℤ → Option Signature
+signatureInRange p f y c = pick (within (p .k - p .b) (point f c y)) (some (record { c = c; z = point f c y })) none
 
 -- a mask passes when its pool yields a challenge and z is in range
 abbrev pub withChallenge : Params → List ℤ → List ℤ → Option (List ℤ) → Option Signature
 withChallenge p f y none = none
-withChallenge p f y (some c) = inRange p f y c
+withChallenge p f y (some c) = signatureInRange p f y c
 
 -- the signing by a mask that passes, n masks passed over before it; else what the masks after it give
 abbrev pub orElse : ℕ → List ℕ → Option Signature → Option Signed → Option Signed

@@ -11,15 +11,16 @@ use lib.IntN.{ℤ}
 use lib.ListN.{length, take, length-take}
 use Rattle.algebra.specs.Choice.{pick}
 use Rattle.algebra.proofs.Test.{true-holds}
+use Rattle.algebra.specs.Integer.{within}
 use Rattle.parameters.specs.declared.Params.{Params}
-use Rattle.polynomial.specs.Polynomial.{point, within}
+use Rattle.polynomial.specs.Polynomial.{point}
 use Rattle.polynomial.specs.Evaluation.{evaluations}
 use Rattle.polynomial.proofs.Bound.{within-mono}
 use Rattle.polynomial.proofs.Length.{length-point}
 use Rattle.challenge.specs.declared.Drawn.{Drawn}
-use Rattle.challenge.specs.Draw.{drawChallenge, drawnChallenge}
+use Rattle.challenge.specs.Draw.{drawChallenge, drawnOf}
 use Rattle.challenge.proofs.Challenge.{Sparse, challenge-sparse}
-use Rattle.scheme.specs.Scheme.{inRange, withChallenge, attempt}
+use Rattle.scheme.specs.Scheme.{signatureInRange, withChallenge, attempt}
 use Rattle.signer.specs.Signer.{Signable, Answerable, Writable}
 use Rattle.signer.proofs.EntryCount.{length-entries}
 
@@ -41,7 +42,7 @@ one-mask {p} {y = y} a e g = record {
 
 -- the drawer's answer d for the commitment w of the mask y
 module _ (p : Params) (points message : List ℕ) (f y : List ℤ) (d : Drawn) {w : List ℕ}
-    (e : drawnChallenge p d ≡ drawChallenge p w message) (g : w ≡ evaluations p y points) where
+    (e : drawnOf p d ≡ drawChallenge p w message) (g : w ≡ evaluations p y points) where
   answer : {t : Bool} → d .complete ≡ t → drawChallenge p (evaluations p y points) message ≡ pick t (some (take (p .n) (d .challenge))) none
   answer c =
       ap (λ (v : List ℕ). drawChallenge p v message) (sym g) ∙ sym e
@@ -53,7 +54,7 @@ module _ (p : Params) (points message : List ℕ) (f y : List ℤ) (d : Drawn) {
   spent c = ap (withChallenge p f y) (answer c)
 
   -- there is a challenge
-  pub drawn : d .complete ≡ true → attempt drawChallenge p points message f y ≡ inRange p f y (take (p .n) (d .challenge))
+  pub drawn : d .complete ≡ true → attempt drawChallenge p points message f y ≡ signatureInRange p f y (take (p .n) (d .challenge))
   unfolding attempt
   drawn c = ap (withChallenge p f y) (answer c)
 
@@ -78,10 +79,10 @@ module _ {p : Params} {f c y : List ℤ} {out : List ℕ} (a : Answerable p f c 
     room = a .room ∙ omega (arith, point-size);
   }
 
-  pub in-range : within (p .k - p .b) z ≡ true → inRange p f y c ≡ some (record { c = c; z = z })
+  pub in-range : within (p .k - p .b) z ≡ true → signatureInRange p f y c ≡ some (record { c = c; z = z })
   in-range t = ap (λ (x : List ℤ). pick (within (p .k - p .b) x) (some (record { c = c; z = x })) none) (sym e)
       ∙ ap (λ (b : Bool). pick b (some (record { c = c; z = z })) none) t
 
-  pub out-of-range : within (p .k - p .b) z ≡ false → inRange p f y c ≡ none
+  pub out-of-range : within (p .k - p .b) z ≡ false → signatureInRange p f y c ≡ none
   out-of-range t = ap (λ (x : List ℤ). pick (within (p .k - p .b) x) (some (record { c = c; z = x })) none) (sym e)
       ∙ ap (λ (b : Bool). pick b (some (record { c = c; z = z })) none) t

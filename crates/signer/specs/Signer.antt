@@ -4,13 +4,15 @@ use mathlib.Core.Path.{_≡_}
 use mathlib.Core.Bool.{Bool, true, false}
 use mathlib.Core.List.{List}
 use mathlib.Core.Option.{Option, none, some}
-use Prim.Native.Nat.{ℕ, _+_, _*_, _/_, _%_, _<_, _≤_}
+use Prim.Native.Nat.{ℕ, _+_, _*_, _/_, _%_, _≤_}
 use lib.Dec.{T}
 use lib.IntN.{ℤ}
-use lib.ListN.{length, getD}
+use lib.ListN.{length}
+use Rattle.algebra.specs.Integer.{within}
 use Rattle.parameters.specs.declared.Params.{Params}
 use Rattle.parameters.specs.Sound.{Sound, Fitting, PowersOf}
-use Rattle.polynomial.specs.Polynomial.{within, ternary, weight}
+use Rattle.polynomial.specs.Polynomial.{ternary, weight}
+use Rattle.polynomial.specs.Evaluation.{Below}
 use Rattle.encoding.specs.Bytes.{parts}
 use Rattle.encoding.specs.Challenge.{entriesOf}
 use Rattle.encoding.specs.Encoding.{signatureSize, signatureBytes}
@@ -55,7 +57,7 @@ pub record Signable (p : Params) (powers : List ℕ) (f : List ℤ) (points : Li
   pub key-size : length f ≡ p .n
   pub key : T (ternary f)
   pub points-size : length points ≡ p .t
-  pub points-below : (i : ℕ) → i < length points → getD points i 0 < p .n
+  pub points-below : Below (p .n) points
   pub masks-whole : length masks % p .n ≡ 0
   pub masks-few : length masks ≤ 8 * p .n
   pub room : length out ≡ signatureSize p

@@ -2,12 +2,12 @@
 ghost use mathlib.Core.Path.{_≡_};
 ghost use Prim.Native.Nat.{_*_, _/_, _≤_};
 ghost use lib.ListN.{length};
+ghost use Rattle.algebra.specs.Integer.{within};
 ghost use Rattle.challenge.specs.Draw.{drawChallenge};
 ghost use Rattle.encoding.specs.Bytes.{encoded};
 ghost use Rattle.encoding.specs.Challenge.{entriesOf};
 ghost use Rattle.encoding.specs.Encoding.{signatureBytes};
-ghost use Rattle.polynomial.specs.Polynomial.{within};
-ghost use Rattle.scheme.specs.Scheme.{attempt, inRange};
+ghost use Rattle.scheme.specs.Scheme.{attempt, signatureInRange};
 ghost use Rattle.signer.specs.Signer.{Signable, Answerable, Writable, signedBy, signedBytes, attemptBytes, passedOverIn, passes};
 use challenge::draw::challenge_of;
 use encoding::challenge_entries::write_entries;
@@ -56,8 +56,8 @@ fn write_signature(set: u8, b: usize, c: &[i8], z: &[i32], out: &mut [u8])
 // Writes the signature with the challenge c and the mask y where its point is in range, and says whether it is.
 fn sign_with_challenge(p: Params, set: u8, f: &[i16], c: &[i8], y: &[i16], out: &mut [u8]) -> bool
     requires { ⌜ Answerable p (now f) (now c) (now y) (now out) ⌝ }
-    ensures answer { λ r. ⌜ r ≡ passes (inRange p (now (f .entry)) (now (y .entry)) (now (c .entry))) ⌝ }
-    ensures bytes { λ _. ⌜ now (out .exit) ≡ attemptBytes set (inRange p (now (f .entry)) (now (y .entry)) (now (c .entry))) (now (out .entry)) ⌝ }
+    ensures answer { λ r. ⌜ r ≡ passes (signatureInRange p (now (f .entry)) (now (y .entry)) (now (c .entry))) ⌝ }
+    ensures bytes { λ _. ⌜ now (out .exit) ≡ attemptBytes set (signatureInRange p (now (f .entry)) (now (y .entry)) (now (c .entry))) (now (out .entry)) ⌝ }
 {
     let n = p.n;
     let b = p.b;

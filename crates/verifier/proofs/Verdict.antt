@@ -6,9 +6,9 @@ use mathlib.Core.List.{List}
 use mathlib.Core.Option.{Option}
 use Prim.Native.Nat.{ℕ, _-_}
 use lib.IntN.{ℤ}
+use Rattle.algebra.specs.Integer.{within}
 use Rattle.challenge.specs.Draw.{drawChallenge}
 use Rattle.parameters.specs.declared.Params.{Params}
-use Rattle.polynomial.specs.Polynomial.{within}
 use Rattle.scheme.specs.Scheme.{Signature, recovered, isDrawn, verdict}
 
 pub verdict-is : (p : Params) (points message vs : List ℕ) (s : Signature) {t : Bool} {o : Option (List ℤ)} → t ≡ within (p .k - p .b) (s .z)

@@ -7,7 +7,7 @@ use borrow.Author.Needs.{needs}
 use borrow.Author.Tests.{eq-eqb, ne-eqb, not-true, not-false}
 use Rattle.algebra.specs.All.{all}
 use Rattle.algebra.specs.Choice.{pick}
-use Rattle.polynomial.specs.Polynomial.{within}
+use Rattle.algebra.specs.Integer.{within}
 use Rattle.encoding.specs.Encoding.{arePoints, isKeyByte, isKey}
 use Rattle.entry_sign.specs.Sign.{areMasks, signRefusalIn}
 use Rattle.encoding.proofs.Parts.{rest}

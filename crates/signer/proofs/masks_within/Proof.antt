@@ -9,8 +9,8 @@ use lib.IntN.{ℤ, pos, natAbs}
 use lib.ListN.{length, getD, take}
 use mir.Syntax.{w16, w32}
 use borrow.Author.Needs.{needs}
-use Rattle.polynomial.specs.Polynomial.{within}
 use Rattle.algebra.proofs.Signed.{widened}
+use Rattle.algebra.specs.Integer.{within}
 use Rattle.encoding.proofs.Testing.{all-step, all-done}
 use Rattle.algebra.proofs.Widening.{fits-wider}
 use Rattle.signer.proofs.masks_within.Statement.{statement}

@@ -3,7 +3,7 @@
 use mathlib.Core.Path.{sym, ap, _∙_}
 use lib.Seq.{length-take-le}
 use borrow.Author.Needs.{needs}
-use Rattle.polynomial.specs.Polynomial.{within}
+use Rattle.algebra.specs.Integer.{within}
 use Rattle.verifier.proofs.point_in_range.Statement.{statement}
 use Rattle.verifier.proofs.point_in_range.Tie as tie
 

@@ -1,13 +1,13 @@
 -- `challenge::pool::pool_of` meets its contract.
 -- Assumes nothing.
 use mathlib.Core.Path.{ap, sym, _∙_}
-use mathlib.Core.List.{List}
+use mathlib.Core.List.{List, flatten}
 use Prim.Native.Nat.{ℕ}
 use native.Mathlib.Omega.{arith}
 use lib.ListN.{length}
 use lib.Seq.{length-take-le}
 use borrow.Author.Needs.{needs}
-use Rattle.challenge.specs.Pool.{joined, pool, poolDigests}
+use Rattle.challenge.specs.Pool.{pool, poolDigests}
 use Rattle.challenge.proofs.Digests.{pool-sized}
 use Rattle.challenge.proofs.pool.pool_of.Statement.{statement}
 use Rattle.challenge.proofs.pool.pool_of.Tie as tie
@@ -33,8 +33,8 @@ returns c =
     let p = c .before in
     let s = p .before .before .before .before .before .args in
     c .flat .ensures
-    ∙ ap joined (p .pool-digests .ensures)
-    ∙ ap (λ (bytes : List ℕ). joined (poolDigests bytes (s .message .now))) (p .before .before .commitment-bytes .ensures)
+    ∙ ap flatten (p .pool-digests .ensures)
+    ∙ ap (λ (bytes : List ℕ). flatten (poolDigests bytes (s .message .now))) (p .before .before .commitment-bytes .ensures)
 
 pub pool-of-spec : {M : Type 1} → statement M
 pool-of-spec =

@@ -1,10 +1,12 @@
 -- `are_entries_of` tests one entry a turn.
 -- Assumes nothing.
-use mathlib.Core.Path.{_≡_, refl}
+use mathlib.Core.Path.{_≡_, refl, sym, _∙_}
 use mathlib.Core.Bool.{_&&_}
+use mathlib.Core.List.{map}
 use Prim.Native.Nat.{_-_, _≤_}
-use lib.ListN.{length, drop}
-use Rattle.encoding.specs.Challenge.{increasing}
+use lib.ListN.{length, drop, length-map, List·getD-map}
+use Rattle.encoding.specs.Bytes.{increasing}
+use Rattle.encoding.specs.Challenge.{indexOf}
 use Rattle.encoding.proofs.Testing.{increasing-step, increasing-done}
 use borrow.Author.Needs.{needs}
 use native.Mathlib.Omega.{arith}
@@ -12,7 +14,7 @@ use Rattle.encoding.proofs.challenge_entries.are_entries_of.Statement.{
 use Rattle.encoding.proofs.challenge_entries.are_entries_of.Tie as tie
 
 abbrev Inv-loop : tie.InvT-loop
-Inv-loop entries n ok₀ from₀ k₀ ok from k = (k ≤ length entries) × (increasing n 0 entries ≡ (ok && increasing n from (drop k entries)))
+Inv-loop entries n ok₀ from₀ k₀ ok from k = (k ≤ length entries) × (increasing n 0 (map indexOf entries) ≡ (ok && increasing n from (drop k (map indexOf entries))))
 
 abbrev μ-loop : tie.MeasureT-loop
 μ-loop entries n ok₀ from₀ k₀ ok from k = length entries - k
@@ -29,8 +31,8 @@ shared-slice-read-index-of c = omega arith
 index-of-requires : tie.Need-index-of-requires Inv-loop μ-loop
 index-of-requires c κs = search needs
 
-is-next-index-requires : tie.Need-is-next-index-requires Inv-loop μ-loop
-is-next-index-requires c κs = search needs
+is-next-requires : tie.Need-is-next-requires Inv-loop μ-loop
+is-next-requires c κs = search needs
 
 add-from : tie.Need-add-from Inv-loop μ-loop
 add-from c = omega arith
@@ -43,10 +45,17 @@ loop-less c = omega arith
 
 loop-again : tie.Need-loop-again Inv-loop μ-loop
 loop-again c = let l = c .before .before .before .before .loop in
-    (omega arith, increasing-step _ _ (l .from) (l .k) (l .ok) (omega arith) (l .inv .1) (c .before .index-of .ensures) (c .is-next-index .ensures))
+    let entries = c .before .before .before .before .before .before .args .entries .now in (
+      omega arith,
+      increasing-step _ (map indexOf entries) (l .from) (l .k) (l .ok) (rw (length-map entries indexOf) (omega arith)) (l .inv .1)
+          (c .before .index-of .ensures ∙ sym (List·getD-map indexOf entries (l .k) 0)) (c .is-next .ensures),
+    )
 
 returns : tie.Need-returns Inv-loop μ-loop
-returns c = let l = c .before .loop in increasing-done _ _ (l .from) (l .k) (omega arith) (l .inv .1)
+returns c =
+    let l = c .before .loop in
+    let entries = c .before .before .before .args .entries .now in
+    increasing-done _ (map indexOf entries) (l .from) (l .k) (rw (length-map entries indexOf) (omega arith)) (l .inv .1)
 
 pub are-entries-of-spec : {M : Type 1} → statement M
 are-entries-of-spec =
@@ -58,7 +67,7 @@ are-entries-of-spec =
     mul-index-of
     shared-slice-read-index-of
     index-of-requires
-    is-next-index-requires
+    is-next-requires
     add-from
     add-k
     loop-less

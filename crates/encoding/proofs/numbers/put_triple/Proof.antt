@@ -4,7 +4,7 @@ use mathlib.Core.Path.{_≡_}
 use Prim.Native.Nat.{suc, _+_}
 use native.Mathlib.Numerals.{add-one}
 use lib.ListN.{length-set}
-use Rattle.encoding.specs.Bytes.{bytesOf}
+use Rattle.encoding.specs.Bytes.{bigEndian}
 use native.Mathlib.Omega.{arith}
 use Rattle.encoding.proofs.numbers.put_triple.Statement.{statement}
 use Rattle.encoding.proofs.numbers.put_triple.Tie as tie
@@ -37,7 +37,7 @@ same-length : tie.Need-same-length
 same-length c = simp length-set
 
 returns : tie.Need-returns
-unfolding bytesOf
+unfolding bigEndian
 returns c = let e : c .args .at + 2 ≡ suc (suc (c .args .at)) = omega arith in rw (add-one, e)
 
 pub put-triple-spec : {M : Type 1} → statement M

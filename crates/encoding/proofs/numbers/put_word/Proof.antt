@@ -2,7 +2,7 @@
 -- Assumes nothing.
 use native.Mathlib.Numerals.{add-one}
 use lib.ListN.{length-set}
-use Rattle.encoding.specs.Bytes.{bytesOf}
+use Rattle.encoding.specs.Bytes.{bigEndian}
 use borrow.Author.Needs.{needs}
 use native.Mathlib.Omega.{arith}
 use Rattle.encoding.proofs.numbers.put_word.Statement.{statement}
@@ -27,7 +27,7 @@ same-length : tie.Need-same-length
 same-length c = search needs
 
 returns : tie.Need-returns
-unfolding bytesOf
+unfolding bigEndian
 returns c = rw add-one
 
 pub put-word-spec : {M : Type 1} → statement M

@@ -4,18 +4,18 @@ use mathlib.Core.Path.{_≡_, refl}
 use mathlib.Core.Bool.{_&&_}
 use Prim.Native.Nat.{_-_, _≤_}
 use lib.ListN.{length, drop}
-use Rattle.encoding.specs.Encoding.{rising}
-use Rattle.encoding.proofs.Testing.{rising-step, rising-done}
+use Rattle.encoding.specs.Bytes.{increasing}
+use Rattle.encoding.proofs.Testing.{increasing-step, increasing-done}
 use borrow.Author.Needs.{needs}
 use native.Mathlib.Omega.{arith}
 use Rattle.encoding.proofs.public_key.are_points.Statement.{statement}
 use Rattle.encoding.proofs.public_key.are_points.Tie as tie
 
 abbrev Inv-loop : tie.InvT-loop
-Inv-loop points n ok₀ last₀ i₀ ok last i = (i ≤ length points) × (rising n 0 points ≡ (ok && rising n last (drop i points)))
+Inv-loop points n ok₀ from₀ i₀ ok from i = (i ≤ length points) × (increasing n 1 points ≡ (ok && increasing n from (drop i points)))
 
 abbrev μ-loop : tie.MeasureT-loop
-μ-loop points n ok₀ last₀ i₀ ok last i = length points - i
+μ-loop points n ok₀ from₀ i₀ ok from i = length points - i
 
 loop-holds : tie.Need-loop-holds Inv-loop μ-loop
 loop-holds c = (search needs, refl)
@@ -29,8 +29,11 @@ shared-slice-read-j c = omega arith
 cast-j : tie.Need-cast-j Inv-loop μ-loop
 cast-j c = omega (arith, c .shared-slice-known2 .given (c .before .before .loop .i))
 
-is-next-point-requires : tie.Need-is-next-point-requires Inv-loop μ-loop
-is-next-point-requires c κs = search needs
+is-next-requires : tie.Need-is-next-requires Inv-loop μ-loop
+is-next-requires c κs = search needs
+
+add-from : tie.Need-add-from Inv-loop μ-loop
+add-from c = omega (arith, c .before .shared-slice-known2 .given (c .before .before .before .loop .i))
 
 add-i : tie.Need-add-i Inv-loop μ-loop
 add-i c = omega arith
@@ -40,10 +43,10 @@ loop-less c = omega arith
 
 loop-again : tie.Need-loop-again Inv-loop μ-loop
 loop-again c = let l = c .before .before .before .loop in
-    (omega arith, rising-step _ _ (l .last) (l .i) (l .ok) (omega arith) (l .inv .1) (c .is-next-point .ensures))
+    (omega arith, increasing-step _ _ (l .from) (l .i) (l .ok) (omega arith) (l .inv .1) refl (c .is-next .ensures))
 
 returns : tie.Need-returns Inv-loop μ-loop
-returns c = let l = c .before .loop in rising-done _ _ (l .last) (l .i) (omega arith) (l .inv .1)
+returns c = let l = c .before .loop in increasing-done _ _ (l .from) (l .i) (omega arith) (l .inv .1)
 
 pub are-points-spec : {M : Type 1} → statement M
 are-points-spec =
@@ -55,7 +58,8 @@ are-points-spec =
     mul-j
     shared-slice-read-j
     cast-j
-    is-next-point-requires
+    is-next-requires
+    add-from
     add-i
     loop-less
     loop-again

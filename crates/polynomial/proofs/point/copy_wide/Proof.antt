@@ -12,7 +12,7 @@ use mir.Syntax.{w16, w32}
 use mir.Val.{SFits, toZ, ofZ}
 use borrow.Author.Needs.{needs}
 use Rattle.algebra.proofs.List.{copy-more}
-use Rattle.polynomial.specs.Polynomial.{within}
+use Rattle.algebra.specs.Integer.{within}
 use Rattle.polynomial.proofs.Bound.{within-next}
 use Rattle.algebra.proofs.Signed.{abs-below, widened}
 use Rattle.polynomial.proofs.point.copy_wide.Statement.{statement}

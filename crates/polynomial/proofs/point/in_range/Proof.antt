@@ -13,7 +13,7 @@ use mir.Facts.{toZ-ofZ}
 use mir.Syntax.{w32}
 use borrow.Author.Needs.{needs}
 use Rattle.algebra.proofs.All.{all-more}
-use Rattle.polynomial.specs.Polynomial.{within}
+use Rattle.algebra.specs.Integer.{within}
 use Rattle.polynomial.proofs.point.in_range.Statement.{statement}
 use Rattle.polynomial.proofs.point.in_range.Tie as tie
 

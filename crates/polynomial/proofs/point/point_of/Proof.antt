@@ -13,7 +13,8 @@ use mir.Facts.{toZ-ofZ}
 use mir.Syntax.{w8}
 use mir.Val.{SFits, toZ}
 use borrow.Author.Needs.{needs}
-use Rattle.polynomial.specs.Polynomial.{coefficient, add, scale, point, within}
+use Rattle.algebra.specs.Integer.{within}
+use Rattle.polynomial.specs.Polynomial.{coefficient, add, scale, point}
 use Rattle.polynomial.specs.Rotation.{rotations}
 use Rattle.polynomial.proofs.Bound.{within-coefficient, within-mono, partial-within}
 use Rattle.polynomial.proofs.Length.{length-point}
