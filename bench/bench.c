@@ -2,15 +2,9 @@
    microseconds, and the ratios. A difference in what the two compute ends the run. */
 #include "material.h"
 
-/* functions of the inner crates, from the crates bench_exports and bench_session: each slice is a pointer and its length */
-void bench_sha512(const uint8_t *message, size_t size, uint8_t *digest);
-void bench_sha512_of_two(const uint8_t *first, size_t first_size, const uint8_t *second, size_t second_size, uint8_t *digest);
-void bench_point(const int16_t *f, size_t f_size, const int8_t *c, size_t c_size, const int16_t *y, size_t y_size, int32_t *z, size_t z_size);
-void bench_play(const uint8_t *file, size_t size, uint8_t *rows, size_t room);
-
 /* what each side writes */
 static struct result {
-    uint8_t digest[64], signature[2379], rows[16384];
+    uint8_t digest[64], signature[2379], rows[ROW_BUFFER];
     int8_t challenge[1153];
     uint32_t values[600], answer;
     int32_t z[1153];
@@ -51,7 +45,7 @@ static void ours_signs(void) { ours.answer = sign_with(masks[0], ours.signature)
 static void plain_checks(void) { plain.answer = 256 * plain_check(in_use(), powers, public_key, message, 64, signatures[0]); }
 static void ours_checks(void) { ours.answer = passign_check(public_key, 1 + 5 * in_use()->t, message, 64, signatures[0], signature_size()); }
 static void plain_plays(void) { plain_play(file, size, plain.rows); }
-static void ours_plays(void) { bench_play(file, size, ours.rows, sizeof ours.rows); }
+static void ours_plays(void) { play_file(ours.rows); }
 
 static void plain_products(void) { plain_draws(), plain_points(); }
 static void ours_products(void) { ours_draws(), ours_points(); }

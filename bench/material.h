@@ -1,19 +1,20 @@
 /* A key, points, masks that pass and a message for a set, and session files made of them. */
 #ifndef MATERIAL_H
 #define MATERIAL_H
+#include "harness.h"
 #include "passign.h"
 #include "plain.h"
 #include "timing.h"
 #include <stdio.h>
 #include <string.h>
 
-enum { FILE_ROOM = 65536, MASKS = 60 };
+enum { FILE_ROOM = 65536, MASKS = 60, ROW_BUFFER = 16384 };
 
 static uint8_t set, secret_key[1154], public_key[3001], message[65535], signatures[MASKS][2379];
 static uint16_t points[600];
 static int16_t masks[MASKS][1153];
 static uint8_t file[FILE_ROOM];
-static size_t size;
+static size_t size, commands;
 static int pairs;
 
 static const struct plain_set *in_use(void) { return &plain_sets[set]; }
@@ -64,6 +65,7 @@ static void command(uint8_t number, int mask)
 {
     const struct plain_set *s = in_use();
     byte(number);
+    commands++;
     switch (number) {
     case 1: byte(set); break;
     case 2: bytes(public_key + 1, 2 * s->t); break;
@@ -81,7 +83,7 @@ static void command(uint8_t number, int mask)
 /* tag, set and points */
 static void begin_file(void)
 {
-    size = 0;
+    size = commands = 0;
     bytes((const uint8_t *)"PSG1", 4);
     command(1, 0);
     command(2, 0);
@@ -99,6 +101,16 @@ static void fill_with_pairs(void)
         command(7, pairs);
     }
     command(0, 0);
+}
+
+/* plays each command of the file; a play's four numbers, its file's and its row buffer's start and end, are cut to what is lent */
+static void play_file(uint8_t *rows)
+{
+    static uint32_t plays[4 * FILE_ROOM], answers[FILE_ROOM];
+    if (plays[1] == 0)
+        for (size_t i = 1; i < 4 * FILE_ROOM; i += 2)
+            plays[i] = UINT32_MAX;
+    harness_plays(file, size, plays, 4 * commands, rows, ROW_BUFFER, answers, commands);
 }
 
 #endif

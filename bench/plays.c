@@ -2,13 +2,11 @@
    signings and checks beside the same calls of the library. Least times, in microseconds. */
 #include "material.h"
 
-void bench_play(const uint8_t *file, size_t size, uint8_t *rows, size_t room);
-
 enum { STATE = 26630 }; /* a Session, as the compiler copies it */
 
-static uint8_t rows[16384], copies[2][STATE];
+static uint8_t rows[ROW_BUFFER], copies[2][STATE];
 
-static void plays(void) { bench_play(file, size, rows, sizeof rows); }
+static void plays(void) { play_file(rows); }
 
 static void copy(void)
 {

@@ -35,14 +35,14 @@ class Guarded:
         return ctypes.string_at(self.memory, self.size)
 
 
-def build(repository):
-    """Path of the shared object. rt proves the crate first, unless that is done already."""
-    built = subprocess.run(["rt", "staticlib", "passign_c"], cwd=repository, text=True,
+def build(repository, crate):
+    """Path of the crate's shared object. rt proves the crate first, unless that is done already."""
+    built = subprocess.run(["rt", "staticlib", crate], cwd=repository, text=True,
                            stdout=subprocess.PIPE, stderr=subprocess.STDOUT)
     if built.returncode != 0:
-        sys.exit(f"{built.stdout}\nlibrary: rt staticlib passign_c failed")
-    archive = repository / "target/staticlib/libpassign_c.a"
-    shared = repository / "target/libpassign_c.so"
+        sys.exit(f"{built.stdout}\nlibrary: rt staticlib {crate} failed")
+    archive = repository / f"target/staticlib/lib{crate}.a"
+    shared = repository / f"target/lib{crate}.so"
     subprocess.run(["cc", "-shared", "-o", shared, "-Wl,--whole-archive", archive,
                     "-Wl,--no-whole-archive", "-Wl,-z,defs"], check=True)  # defs: nothing left unlinked
     return shared

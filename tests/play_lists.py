@@ -1,21 +1,16 @@
-"""Lists of plays with any row buffers and swapped files, through crates/play_lists and through the reference: answers and the digest of
-all memory around the row buffer must agree."""
+"""Lists of plays with any row buffers and swapped files, through crate harness and through the reference: answers and all memory around the
+row buffers must agree."""
 
-import hashlib
-import subprocess
+import ctypes
 from collections import Counter
 from random import Random
 
 import sessions
 from reference.session import HAS_ENDED, ROW_BUFFER_AT_FAULT, ROW_BUFFER_BYTES, open_session, play
 
-MEMORY = 16400  # bytes that the program's row buffer is part of
-FILL = 165
+MEMORY = 16400  # bytes that each play's row buffer is the front of
 LISTS = 150
-
-
-def number(value):
-    return value.to_bytes(3, "big")
+AT_FAULT, ENDED = 256, 257  # crate harness: where an answer is no row's number
 
 
 def make(seed, at):
@@ -34,49 +29,68 @@ def make(seed, at):
     return files, plays
 
 
-def encoded(files, plays):
-    """The program's input: the plays first, then the files one after the other."""
-    start, places = 3 + 9 * len(plays), []
+def numbers(files, plays):
+    """For each play where its file starts and ends in the files, one after the other, and its row buffer in the memory."""
+    places, start = [], 0
     for file in files:
         places.append((start, start + len(file)))
         start += len(file)
-    head = number(len(plays)) + b"".join(
-        number(places[file][0]) + number(places[file][1]) + number(size) for file, size in plays)
-    return head + b"".join(files)
+    return [number for i, (file, size) in enumerate(plays) for number in (*places[file], MEMORY * i, MEMORY * i + size)]
 
 
-def answered(files, plays):
-    """What the reference answers, line by line."""
-    session, lines = open_session(), []
-    for file, size in plays:
-        memory = bytearray([FILL]) * MEMORY
-        rows = bytearray(memory[:size])
+def by_reference(files, plays, memory):
+    """The answers, as crate harness gives them, and the memory after all plays."""
+    session, answers = open_session(), []
+    memory = bytearray(memory)
+    for i, (file, size) in enumerate(plays):
+        rows = memory[MEMORY * i:MEMORY * i + size]
         session, answer = play(session, files[file], rows)
-        memory[:size] = rows
-        lines.append(f"{said(answer)} {hashlib.sha512(memory).hexdigest()}")
-    return lines
+        memory[MEMORY * i:MEMORY * i + size] = rows
+        answers.append({ROW_BUFFER_AT_FAULT: AT_FAULT, HAS_ENDED: ENDED}.get(answer) or answer.number)
+    return answers, bytes(memory)
 
 
-def said(answer):
-    return {ROW_BUFFER_AT_FAULT: "fault", HAS_ENDED: "ended"}.get(answer) or f"row {answer.number}"
+def by_library(library, files, plays, memory):
+    """The same of the code."""
+    lent = [(ctypes.c_uint8 * sum(map(len, files))).from_buffer_copy(b"".join(files)),
+            (ctypes.c_uint32 * (4 * len(plays)))(*numbers(files, plays)),
+            (ctypes.c_uint8 * len(memory)).from_buffer_copy(memory),
+            (ctypes.c_uint32 * len(plays))()]
+    passed = []
+    for slice_ in lent:
+        passed += [ctypes.byref(slice_), ctypes.c_size_t(len(slice_))]
+    library.harness_plays.restype = None
+    library.harness_plays(*passed)
+    return list(lent[3]), bytes(lent[2])
 
 
-def run(seed, program):
+def difference(found, wanted):
+    """The first play at which they differ, and what each has there."""
+    for i, (mine, reference) in enumerate(zip(found[0], wanted[0])):
+        part = slice(MEMORY * i, MEMORY * (i + 1))
+        if mine != reference or found[1][part] != wanted[1][part]:
+            return f"play {i}: {mine} {found[1][part][:40]!r}, reference {reference} {wanted[1][part][:40]!r}"
+    return None
+
+
+def kind(answer):
+    return {AT_FAULT: "fault", ENDED: "ended"}.get(answer, "row")
+
+
+def run(seed, shared):
     """True when all agree."""
     kinds, plays_made = Counter(), 0
+    library = ctypes.CDLL(str(shared)) if shared else None
     for at in range(LISTS):
         files, plays = make(seed, at)
-        wanted = answered(files, plays)
-        printed = wanted
-        if program:
-            done = subprocess.run([program], input=encoded(files, plays), stdout=subprocess.PIPE, check=True)
-            printed = done.stdout.decode().lower().splitlines()
-        if printed != wanted:
-            differs = next(i for i, pair in enumerate(zip(printed + [""], wanted + [""])) if pair[0] != pair[1])
-            print(f"lists of plays: DIFFERENCE in list {at}, play {differs}: {(printed + [''])[differs][:60]!r}, reference {(wanted + [''])[differs][:60]!r}, seed {seed}")
+        memory = Random(f"{seed} memory {at}").randbytes(MEMORY * len(plays))
+        wanted = by_reference(files, plays, memory)
+        found = by_library(library, files, plays, memory) if library else wanted
+        if found != wanted:
+            print(f"lists of plays: DIFFERENCE in list {at}, {difference(found, wanted)}, seed {seed}")
             return False
-        kinds.update(line.split(" ")[0] for line in wanted)
+        kinds.update(map(kind, wanted[0]))
         plays_made += len(plays)
-    print(f"lists of plays: {LISTS} lists with {plays_made} plays {'agree with the reference' if program else 'of the reference alone'}: "
-          + ", ".join(f"{kind} {count}" for kind, count in sorted(kinds.items())) + f", seed {seed}")
+    print(f"lists of plays: {LISTS} lists with {plays_made} plays {'agree with the reference' if library else 'of the reference alone'}: "
+          + ", ".join(f"{name} {count}" for name, count in sorted(kinds.items())) + f", seed {seed}")
     return set(kinds) == {"row", "fault", "ended"}

@@ -3,9 +3,19 @@
 ghost use mathlib.Core.Path.{_≡_};
 ghost use Prim.Native.Nat.{_≤_};
 ghost use lib.ListN.{length};
-use print_digest::print_digest;
+use libc::STDOUT_FILENO;
 use sha512::sha512;
 use sha512::sha512_of_two;
+
+// Prints a digest in hex, and a line feed.
+fn print_digest(digest: [u8; 64]) {
+    let mut i = 0;
+    while i < 64 {
+        io::print_hex(STDOUT_FILENO, digest[i] as u64, 2);
+        i += 1;
+    }
+    io::write_all(STDOUT_FILENO, b"\n");
+}
 
 // The first n bytes of a message, whole and parted at `at`.
 fn print_both(message: &[u8], n: usize, at: usize)

@@ -1,4 +1,6 @@
-// Functions of the inner crates for C, for bench/ alone. The kit's own entries for C are those of passign_c.
+// Functions for tests/ and bench/ alone, to call from C. The kit's own entries for C are those of passign_c.
+mod plays;
+
 ghost use mathlib.Core.Path.{_≡_};
 ghost use mathlib.Core.List.{_++_};
 ghost use Prim.Native.Nat.{_≤_};

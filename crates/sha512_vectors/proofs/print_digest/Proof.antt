@@ -4,8 +4,8 @@ use mathlib.Core.Path.{_≡_}
 use Prim.Native.Nat.{_≤_, _-_}
 use lib.ListN.{length}
 use borrow.Author.Needs.{needs}
-use Rattle.print_digest.proofs.print_digest.Statement.{statement}
-use Rattle.print_digest.proofs.print_digest.Tie as tie
+use Rattle.sha512_vectors.proofs.print_digest.Statement.{statement}
+use Rattle.sha512_vectors.proofs.print_digest.Tie as tie
 
 abbrev Inv-loop : tie.InvT-loop
 Inv-loop digest i₀ t4 i = (i ≤ 64) × (length t4 ≡ 1)
