@@ -55,6 +55,29 @@ uint32_t passign_evaluate(uint8_t set, const int16_t *coefficients, size_t coeff
 /* Draws the challenge of a pool of 64 to 512 bytes, a multiple of 64, as N coefficients: 0, else the refusal number (1, 2, 11). */
 uint32_t passign_draw(uint8_t set, const uint8_t *pool, size_t pool_length, int8_t *challenge, size_t challenge_length);
 
+/* Reads a secret key into N coefficients, each -1, 0 or 1: 0, else the refusal number (1, 2, 5). */
+uint32_t passign_read_secret_key(const uint8_t *secret_key, size_t secret_key_length, int8_t *coefficients, size_t coefficients_length);
+
+/* Writes a secret key of N coefficients: 0, else the refusal number (1, 2, 5). */
+uint32_t passign_write_secret_key(uint8_t set, const int8_t *coefficients, size_t coefficients_length,
+                                  uint8_t *secret_key, size_t secret_key_length);
+
+/* Reads a public key into t exponents and t evaluations: 0, else the refusal number (1, 2, 4, 7). */
+uint32_t passign_read_public_key(const uint8_t *public_key, size_t public_key_length, uint16_t *points, size_t points_length,
+                                 uint32_t *evaluations, size_t evaluations_length);
+
+/* Writes a public key of t exponents and t evaluations: 0, else the refusal number (1, 2, 4, 7). */
+uint32_t passign_write_public_key(uint8_t set, const uint16_t *points, size_t points_length,
+                                  const uint32_t *evaluations, size_t evaluations_length, uint8_t *public_key, size_t public_key_length);
+
+/* Reads a signature into b challenge entries, each as encoded, and N coefficients of z, in range or not: 0, else the refusal number (1, 2, 12). */
+uint32_t passign_read_signature(const uint8_t *signature, size_t signature_length, uint16_t *entries, size_t entries_length,
+                                int16_t *z, size_t z_length);
+
+/* Writes a signature of b challenge entries, each as encoded, and N coefficients of z, in range or not: 0, else the refusal number (1, 2, 12). */
+uint32_t passign_write_signature(uint8_t set, const uint16_t *entries, size_t entries_length, const int16_t *z, size_t z_length,
+                                 uint8_t *signature, size_t signature_length);
+
 #ifdef __cplusplus
 }
 #endif

@@ -9,8 +9,10 @@ GUARD = bytes(range(0xA0, 0xE0))  # 64 bytes: keeps what follows aligned for eve
 
 # The element type (of module array) of each lent slice, in each entry's order; "set" is a number.
 ELEMENTS = {"coefficients": "h", "points": "H", "pool": "B", "secret_key": "B", "masks": "h",
-            "message": "B", "public_key": "B", "signature": "B"}
-OUT_ELEMENTS = {"evaluate": "I", "draw": "b", "public_key": "B", "sign": "B"}
+            "message": "B", "public_key": "B", "signature": "B", "key": "b", "evaluations": "I",
+            "entries": "H", "z": "h"}
+OUT_ELEMENTS = {"evaluate": "I", "draw": "b", "public_key": "B", "sign": "B", "read_secret_key": "b",
+                "write_secret_key": "B", "write_public_key": "B", "write_signature": "B"}
 
 
 def element(entry, argument):

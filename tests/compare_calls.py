@@ -8,14 +8,22 @@ from reference import library
 from reference.parameters import SETS
 
 REFUSALS = {"evaluate": {2, 1, 4}, "draw": {2, 1, 11}, "public_key": {1, 2, 4, 5},
-            "sign": {1, 2, 4, 5, 6, 9}, "check": {1, 2, 4, 7, 12}}
-ACCEPTED = {"evaluate": {0}, "draw": {0}, "public_key": {0}, "sign": {256}, "check": {0, 256}}
+            "sign": {1, 2, 4, 5, 6, 9}, "check": {1, 2, 4, 7, 12},
+            "read_secret_key": {1, 2, 5}, "write_secret_key": {2, 1, 5},
+            "read_public_key": {1, 2, 4, 7}, "write_public_key": {2, 1, 4, 7},
+            "read_signature": {1, 2, 12}, "write_signature": {2, 1, 12}}
+ACCEPTED = {"sign": {256}, "check": {0, 256}}  # 0 for all others
 ALL_PASSED_OVER = set(range(256, 264))
+
+
+def writable(name, values):
+    """A copy of what the reference may write: "out", and lists. Encodings and messages that it reads stay bytes."""
+    return list(values) if name == "out" or isinstance(values, list) else values
 
 
 def expected(call):
     """The reference's answer, and the guarded bytes of each lent slice after the call."""
-    lent = {name: list(values) if name == "out" else values for name, values in call.arguments.items()}
+    lent = {name: writable(name, values) for name, values in call.arguments.items()}
     answer = getattr(library, call.entry)(*lent.values())
     after = {name: GUARD + as_bytes(call.entry, name, values) + GUARD
              for name, values in lent.items() if name != "set"}
@@ -54,7 +62,7 @@ def missing(counts):
     gaps = []
     for entry in REFUSALS:
         for s in SETS:
-            for answer in sorted((REFUSALS[entry] | ACCEPTED[entry]) - set(counts[entry, s.number])):
+            for answer in sorted((REFUSALS[entry] | ACCEPTED.get(entry, {0})) - set(counts[entry, s.number])):
                 gaps.append(f"{entry} in set {s.number} never answers {answer}")
     gaps += [f"sign in set {s.number} passes no mask over" for s in SETS
              if max(counts["sign", s.number], default=0) <= 256]

@@ -14,7 +14,16 @@ def put(values, at, value):
     return bytes(changed) if isinstance(values, (bytes, bytearray)) else changed
 
 
-def longer_or_shorter(name):
+def place(rng, count):
+    """An index below count: the first, the last or any."""
+    return rng.choice((0, count - 1, rng.randrange(count)))
+
+
+def longer_or_shorter(*names):
+    return {label: change for name in names for label, change in lengths_of(name).items()}
+
+
+def lengths_of(name):
     def shorten(rng, s, arguments):
         arguments[name] = arguments[name][:-1]
 
@@ -45,8 +54,12 @@ def set_bytes(name):
                 byte = number if number is not None else rng.choice([n for n in range(5) if n != s.number])
                 arguments[name] = put(arguments[name], 0, byte)
         return to_number
+
+    def alone(rng, s, arguments):
+        arguments[name] = arguments[name][:1]
+
     return {f"{name} of set 5": change(5), f"{name} of set 255": change(255),
-            f"{name} of another set": change(None)}
+            f"{name} of another set": change(None), f"{name} set byte alone": alone}
 
 
 def damaged_points(rng, s, at, kind):
@@ -84,14 +97,14 @@ def coefficients(name, values):
     def change(value):
         def to_value(rng, s, arguments):
             if arguments[name]:
-                arguments[name] = put(arguments[name], rng.randrange(len(arguments[name])), value(s))
+                arguments[name] = put(arguments[name], place(rng, len(arguments[name])), value(s))
         return to_value
     return {f"{name} {label}": change(value) for label, value in values.items()}
 
 
 def key_bytes(rng, s, arguments):
     if len(arguments["secret_key"]) > 1:
-        at = rng.randrange(1, len(arguments["secret_key"]))
+        at = 1 + place(rng, len(arguments["secret_key"]) - 1)
         byte = rng.choice((0x02, 0x7F, 0x80, 0xFE, rng.randrange(256)))
         arguments["secret_key"] = put(arguments["secret_key"], at, byte)
 
@@ -150,43 +163,32 @@ def public_points():
     return {f"public exponent {kind}": change(kind) for kind in POINT_MISTAKES}
 
 
+EVALUATION_EDGES = {"0": lambda s: 0, "q-1": lambda s: s.q - 1, "q": lambda s: s.q, "2^24-1": lambda s: (1 << 24) - 1}
+
+
 def public_evaluations():
     def change(value):
         def to_value(rng, s, arguments):
-            i = rng.randrange(s.t)
+            i = place(rng, s.t)
             change_public_key(s, arguments, lambda at, values: (at, put(values, i, value(s))))
         return to_value
-    edges = {"q": lambda s: s.q, "q-1": lambda s: s.q - 1, "largest": lambda s: (1 << 24) - 1}
-    return {f"public evaluation {label}": change(value) for label, value in edges.items()}
-
-
-def change_entries(change):
-    def changed(rng, s, arguments):
-        data = arguments["signature"]
-        if len(data) < 1 + 2 * s.b:
-            return
-        entries = encodings.numbers(data[1:1 + 2 * s.b], 2)
-        change(rng, s, entries)
-        arguments["signature"] = data[:1] + encodings.number_bytes(entries, 2) + data[1 + 2 * s.b:]
-    return changed
+    return {f"public evaluation {label}": change(value) for label, value in EVALUATION_EDGES.items()}
 
 
 def swap_entries(rng, s, entries):
-    i = rng.randrange(s.b - 1)
+    i = place(rng, s.b - 1)
     entries[i], entries[i + 1] = entries[i + 1], entries[i]
 
 
 def equal_entries(rng, s, entries):
-    i = rng.randrange(s.b - 1)
+    i = place(rng, s.b - 1)
     entries[i + 1] = entries[i] ^ rng.choice((0, 0x8000))
 
 
-def index_N(rng, s, entries):
-    entries[-1] = s.N | rng.choice((0, 0x8000))
-
-
-def index_last(rng, s, entries):
-    entries[-1] = (s.N - 1) | rng.choice((0, 0x8000))
+def index_at(place_of_entry, index):
+    def to_index(rng, s, entries):
+        entries[place_of_entry] = index(s) | rng.choice((0, 0x8000))
+    return to_index
 
 
 def index_any(rng, s, entries):
@@ -197,18 +199,49 @@ def sign_other(rng, s, entries):
     entries[rng.randrange(s.b)] ^= 0x8000
 
 
+ENTRIES = {"entries swapped": swap_entries, "entries equal": equal_entries, "index 0": index_at(0, lambda s: 0),
+           "index N-1": index_at(-1, lambda s: s.N - 1), "index N": index_at(-1, lambda s: s.N),
+           "index 32767": index_at(-1, lambda s: 32767), "index any": index_any, "sign other": sign_other}
+
+
+def encoded_entries():
+    """The entries of a signature changed, where it has them."""
+    def change(change_list):
+        def changed(rng, s, arguments):
+            data, end = arguments["signature"], 1 + 2 * s.b
+            if len(data) >= end:
+                entries = encodings.numbers(data[1:end], 2)
+                change_list(rng, s, entries)
+                arguments["signature"] = data[:1] + encodings.number_bytes(entries, 2) + data[end:]
+        return changed
+    return {label: change(change_list) for label, change_list in ENTRIES.items()}
+
+
+def entry_lists():
+    """A list of entries changed, where it has its right length."""
+    def change(change_list):
+        def changed(rng, s, arguments):
+            if len(arguments["entries"]) == s.b:
+                arguments["entries"] = list(arguments["entries"])
+                change_list(rng, s, arguments["entries"])
+        return changed
+    return {label: change(change_list) for label, change_list in ENTRIES.items()}
+
+
+Z_EDGES = {"-32768": lambda s: -32768, "32767": lambda s: 32767, "k-b": lambda s: s.k - s.b,
+           "k-b+1": lambda s: s.k - s.b + 1, "-(k-b)-1": lambda s: -(s.k - s.b) - 1}
+
+
 def z_coefficients():
     def change(value):
         def to_value(rng, s, arguments):
-            at = 1 + 2 * s.b + 2 * rng.randrange(s.N)
+            at = 1 + 2 * s.b + 2 * place(rng, s.N)
             data = arguments["signature"]
             if len(data) >= at + 2:
                 new = value(s).to_bytes(2, "big", signed=True)
                 arguments["signature"] = data[:at] + new + data[at + 2:]
         return to_value
-    edges = {"-32768": lambda s: -32768, "32767": lambda s: 32767, "k-b": lambda s: s.k - s.b,
-             "k-b+1": lambda s: s.k - s.b + 1, "-(k-b)-1": lambda s: -(s.k - s.b) - 1}
-    return {f"z {label}": change(value) for label, value in edges.items()}
+    return {f"z {label}": change(value) for label, value in Z_EDGES.items()}
 
 
 def flip(name):
@@ -220,29 +253,31 @@ def flip(name):
     return {f"{name} bit": flip_bit}
 
 
-SIGNATURES = {
-    "entries swapped": change_entries(swap_entries), "entries equal": change_entries(equal_entries),
-    "index N": change_entries(index_N), "index N-1": change_entries(index_last),
-    "index any": change_entries(index_any), "sign other": change_entries(sign_other),
-    **z_coefficients(), **flip("signature"),
-}
+SECRET_KEYS = {**set_bytes("secret_key"), **longer_or_shorter("secret_key"), "key byte": key_bytes}
+PUBLIC_KEYS = {**set_bytes("public_key"), **longer_or_shorter("public_key"), **public_points(), **public_evaluations(), **flip("public_key")}
+SIGNATURES = {**set_bytes("signature"), **longer_or_shorter("signature"), **encoded_entries(), **z_coefficients(), **flip("signature")}
 
 I16_EDGES = {"-32768": lambda s: -32768, "32767": lambda s: 32767}
+I8_EDGES = {str(value): lambda s, value=value: value for value in (-128, -2, -1, 1, 2, 127)}
+U32_EDGES = {**EVALUATION_EDGES, "2^24": lambda s: 1 << 24, "2^32-1": lambda s: (1 << 32) - 1}
 
 DAMAGES = {
     "evaluate": {**set_numbers(), **point_lists(), **coefficients("coefficients", I16_EDGES),
-                 **longer_or_shorter("coefficients"), **longer_or_shorter("points"),
-                 **longer_or_shorter("out")},
-    "draw": {**set_numbers(), **longer_or_shorter("pool"), **longer_or_shorter("out")},
-    "public_key": {**set_bytes("secret_key"), **point_lists(), **longer_or_shorter("secret_key"),
-                   **longer_or_shorter("points"), **longer_or_shorter("out"), "key byte": key_bytes},
-    "sign": {**set_bytes("secret_key"), **point_lists(), **longer_or_shorter("secret_key"),
-             **longer_or_shorter("points"), **longer_or_shorter("masks"), **longer_or_shorter("out"),
-             **coefficients("masks", MASK_EDGES), "key byte": key_bytes, "no mask": no_mask,
-             "nine masks": nine_masks, "bad mask last": bad_last_mask,
-             "message too long": message_too_long, "message longest": message_longest},
-    "check": {**set_bytes("public_key"), **set_bytes("signature"), **longer_or_shorter("public_key"),
-              **longer_or_shorter("signature"), **public_points(), **public_evaluations(),
-              **SIGNATURES, **flip("public_key"), "message too long": message_too_long,
+                 **longer_or_shorter("coefficients", "points", "out")},
+    "draw": {**set_numbers(), **longer_or_shorter("pool", "out")},
+    "public_key": {**SECRET_KEYS, **point_lists(), **longer_or_shorter("points", "out")},
+    "sign": {**SECRET_KEYS, **point_lists(), **longer_or_shorter("points", "masks", "out"),
+             **coefficients("masks", MASK_EDGES), "no mask": no_mask, "nine masks": nine_masks,
+             "bad mask last": bad_last_mask, "message too long": message_too_long,
+             "message longest": message_longest},
+    "check": {**PUBLIC_KEYS, **SIGNATURES, "message too long": message_too_long,
               "message longest": message_longest, "message other": message_other},
+    "read_secret_key": {**SECRET_KEYS, **flip("secret_key"), **longer_or_shorter("out")},
+    "write_secret_key": {**set_numbers(), **coefficients("key", I8_EDGES), **longer_or_shorter("key", "out")},
+    "read_public_key": {**PUBLIC_KEYS, **longer_or_shorter("points", "evaluations")},
+    "write_public_key": {**set_numbers(), **point_lists(), **coefficients("evaluations", U32_EDGES),
+                         **longer_or_shorter("points", "evaluations", "out")},
+    "read_signature": {**SIGNATURES, **longer_or_shorter("entries", "z")},
+    "write_signature": {**set_numbers(), **entry_lists(), **coefficients("z", Z_EDGES),
+                        **longer_or_shorter("entries", "z", "out")},
 }

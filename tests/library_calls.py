@@ -1,4 +1,4 @@
-"""Seeded calls of the five library entries, good and damaged, in all five sets.
+"""Seeded calls of the library's entries for C, good and damaged, in all five sets.
 
 A call's name is ENTRY/SET/KIND/REPEAT. Name and seed alone make it, so that one call is replayed
 without the calls before it.
@@ -9,6 +9,7 @@ from itertools import combinations
 from random import Random
 from typing import NamedTuple
 
+import codec_calls
 import material
 from damages import DAMAGES
 from reference import encodings
@@ -72,7 +73,7 @@ def with_signature(s, f, at, text, signature):
     return {"public_key": material.public_key(s, f, at), "message": text, "signature": signature}
 
 
-GOOD = {"evaluate": evaluate, "draw": draw, "public_key": public_key, "sign": sign, "check": check}
+GOOD = {"evaluate": evaluate, "draw": draw, "public_key": public_key, "sign": sign, "check": check, **codec_calls.GOOD}
 
 
 # ── Calls made for one rule ─────────────────────────────────────────────────────────────────────
@@ -174,9 +175,7 @@ def check_of_another_key(rng, s):
 
 def check_any_bytes(rng, s):
     """Entries in order and z in range, but nobody signed."""
-    entries = [i | rng.choice((0, 0x8000)) for i in sorted(rng.sample(range(s.N), s.b))]
-    z = encodings.number_bytes(material.within(rng, s, s.k - s.b), 2, signed=True)
-    signature = bytes([s.number]) + encodings.number_bytes(entries, 2) + z
+    signature = encodings.write_entries(s, material.entries(rng, s), material.within(rng, s, s.k - s.b))
     f, at = material.key(rng, s), material.points(rng, s)
     return with_signature(s, f, at, material.message(rng), signature)
 
@@ -185,11 +184,11 @@ SPECIAL = {
     "evaluate": {"all equal": evaluate_all_equal},
     "draw": {"zeros": draw_zeros, "wrong pool": draw_wrong_pool, "last value": draw_at_the_last_value,
              "spent at last": draw_spent_at_the_last_value, "skip bound": draw_about_the_skip_bound},
-    "public_key": {},
     "sign": {"after failing": sign_after_failing, "none passes": sign_none_passes,
              "edge": sign_at_the_edge, "tight": sign_tight},
     "check": {"z at k-b": check_at(0), "z at k-b+1": check_at(1), "z at k-b+2": check_at(2),
               "another key": check_of_another_key, "any bytes": check_any_bytes},
+    **codec_calls.SPECIAL,
 }
 
 
@@ -213,7 +212,7 @@ def damaged(entry, how_many):
 @lru_cache(maxsize=None)
 def kinds(entry):
     """Each kind's name and maker, for every set."""
-    return {"good": GOOD[entry], **SPECIAL[entry],
+    return {"good": GOOD[entry], **SPECIAL.get(entry, {}),
             **{name: damaged_by(entry, name) for name in DAMAGES[entry]},
             "two damages": damaged(entry, 2), "three damages": damaged(entry, 3)}
 
@@ -224,8 +223,8 @@ def pairs(entry):
     return {f"{a} and {b}": damaged_by(entry, a, b) for a, b in combinations(DAMAGES[entry], 2)}
 
 
-def names():
-    for entry in GOOD:
+def names(entries=GOOD):
+    for entry in entries:
         for s in SETS:
             for kind in kinds(entry):
                 for repeat in range(REPEATS[s.number] * OFTEN.get(kind, 1)):

@@ -85,6 +85,18 @@ def public_key(s, f, at):
     return encodings.write_public_key(s, at, evaluations(s, f, at))
 
 
+def public_evaluations(rng, s):
+    """Any t numbers below q, both ends among them."""
+    return [rng.choice((0, s.q - 1, rng.randrange(s.q), rng.randrange(s.q))) for _ in range(s.t)]
+
+
+def entries(rng, s):
+    """Challenge entries in order, at times the first or the last indices."""
+    low = rng.choice((0, s.N - s.b, None, None))
+    indices = sorted(rng.sample(range(s.N), s.b)) if low is None else range(low, low + s.b)
+    return [i | rng.choice((0, 0x8000)) for i in indices]
+
+
 def unranged_signature(s, f, at, y, text):
     """The challenge and point of a mask, whether z is in range or not: the challenge always fits."""
     c = draw(s, pool_of(evaluations(s, y, at), text))

@@ -71,6 +71,10 @@ def entries_of(challenge):
     return [i | (0x8000 if sign < 0 else 0) for i, sign in enumerate(challenge) if sign]
 
 
+def write_entries(s, entries, z):
+    """A signature of challenge entries as encoded."""
+    return bytes([s.number]) + number_bytes(entries, 2) + number_bytes(z, 2, signed=True)
+
+
 def write_signature(s, challenge, z):
-    entries = number_bytes(entries_of(challenge), 2)
-    return bytes([s.number]) + entries + number_bytes(z, 2, signed=True)
+    return write_entries(s, entries_of(challenge), z)

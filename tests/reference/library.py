@@ -1,8 +1,8 @@
 """The library's entries: tests in document 01's order, answers as the C entries give them.
 
-Points, coefficients and masks are lists of numbers, encodings and messages are bytes, and the last
-argument but of `check` is the lent result buffer, a list or a bytearray written in place. A refused
-call leaves it.
+Points, coefficients, masks and challenge entries are lists of numbers, encodings and messages are
+bytes. Result buffers come last, lists or bytearrays written in place: one, but none for `check` and two
+for the readers of public keys and signatures. A refused call leaves them.
 """
 
 from functools import wraps
@@ -10,7 +10,7 @@ from functools import wraps
 from . import encodings, signing
 from .challenge import draw as draw_challenge, is_pool_length
 from .parameters import SETS
-from .polynomials import are_points, evaluations, is_key, is_mask
+from .polynomials import are_evaluations, are_points, evaluations, is_key, is_mask
 from .refusals import (CHALLENGE_INDEX, EVALUATION, EXPONENTS, KEY_VALUE, LENGTH, MASK_COEFFICIENT,
                        NO_MASK_PASSES, POOL_SPENT, Refused, SET, refuse_unless)
 
@@ -35,6 +35,11 @@ def set_of(number):
     return SETS[number]
 
 
+def set_of_encoding(data):
+    refuse_unless(len(data) > 0, LENGTH)
+    return set_of(data[0])
+
+
 @answers_refusals
 def evaluate(set_number, coefficients, points, out):
     s = set_of(set_number)
@@ -56,8 +61,7 @@ def draw(set_number, pool, out):
 
 @answers_refusals
 def public_key(secret_key, points, out):
-    refuse_unless(len(secret_key) > 0, LENGTH)
-    s = set_of(secret_key[0])
+    s = set_of_encoding(secret_key)
     refuse_unless(len(secret_key) == encodings.secret_key_length(s), LENGTH)
     refuse_unless(len(points) == s.t and len(out) == encodings.public_key_length(s), LENGTH)
     refuse_unless(are_points(s, points), EXPONENTS)
@@ -69,8 +73,8 @@ def public_key(secret_key, points, out):
 
 @answers_refusals
 def sign(secret_key, points, masks, message, out):
-    refuse_unless(len(message) <= MOST_MESSAGE_BYTES and len(secret_key) > 0, LENGTH)
-    s = set_of(secret_key[0])
+    refuse_unless(len(message) <= MOST_MESSAGE_BYTES, LENGTH)
+    s = set_of_encoding(secret_key)
     refuse_unless(len(secret_key) == encodings.secret_key_length(s), LENGTH)
     refuse_unless(len(points) == s.t and len(out) == encodings.signature_length(s), LENGTH)
     refuse_unless(len(masks) % s.N == 0 and len(masks) <= MOST_MASKS * s.N, LENGTH)
@@ -95,8 +99,73 @@ def check(public_key, message, signature):
     refuse_unless(len(signature) == encodings.signature_length(s), LENGTH)
     points, public_evaluations = encodings.read_public_key(s, public_key[1:])
     refuse_unless(are_points(s, points), EXPONENTS)
-    refuse_unless(all(value < s.q for value in public_evaluations), EVALUATION)
+    refuse_unless(are_evaluations(s, public_evaluations), EVALUATION)
     entries, z = encodings.read_signature(s, signature[1:])
     refuse_unless(encodings.are_entries(s, entries), CHALLENGE_INDEX)
     c = encodings.challenge_of(s, entries)
     return YES if signing.check(s, points, public_evaluations, message, c, z) else NO
+
+
+# ── Readers and writers of the encodings ────────────────────────────────────────────────────────
+
+@answers_refusals
+def read_secret_key(secret_key, out):
+    s = set_of_encoding(secret_key)
+    refuse_unless(len(secret_key) == encodings.secret_key_length(s) and len(out) == s.N, LENGTH)
+    f = encodings.read_key(secret_key[1:])
+    refuse_unless(is_key(f), KEY_VALUE)
+    out[:] = f
+    return DONE
+
+
+@answers_refusals
+def write_secret_key(set_number, f, out):
+    s = set_of(set_number)
+    refuse_unless(len(f) == s.N and len(out) == encodings.secret_key_length(s), LENGTH)
+    refuse_unless(is_key(f), KEY_VALUE)
+    out[:] = encodings.write_secret_key(s, f)
+    return DONE
+
+
+@answers_refusals
+def read_public_key(public_key, points_out, evaluations_out):
+    s = set_of_encoding(public_key)
+    refuse_unless(len(public_key) == encodings.public_key_length(s), LENGTH)
+    refuse_unless(len(points_out) == len(evaluations_out) == s.t, LENGTH)
+    points, public_evaluations = encodings.read_public_key(s, public_key[1:])
+    refuse_unless(are_points(s, points), EXPONENTS)
+    refuse_unless(are_evaluations(s, public_evaluations), EVALUATION)
+    points_out[:], evaluations_out[:] = points, public_evaluations
+    return DONE
+
+
+@answers_refusals
+def write_public_key(set_number, points, public_evaluations, out):
+    s = set_of(set_number)
+    refuse_unless(len(points) == len(public_evaluations) == s.t, LENGTH)
+    refuse_unless(len(out) == encodings.public_key_length(s), LENGTH)
+    refuse_unless(are_points(s, points), EXPONENTS)
+    refuse_unless(are_evaluations(s, public_evaluations), EVALUATION)
+    out[:] = encodings.write_public_key(s, points, public_evaluations)
+    return DONE
+
+
+@answers_refusals
+def read_signature(signature, entries_out, z_out):
+    s = set_of_encoding(signature)
+    refuse_unless(len(signature) == encodings.signature_length(s), LENGTH)
+    refuse_unless(len(entries_out) == s.b and len(z_out) == s.N, LENGTH)
+    entries, z = encodings.read_signature(s, signature[1:])
+    refuse_unless(encodings.are_entries(s, entries), CHALLENGE_INDEX)
+    entries_out[:], z_out[:] = entries, z
+    return DONE
+
+
+@answers_refusals
+def write_signature(set_number, entries, z, out):
+    s = set_of(set_number)
+    refuse_unless(len(entries) == s.b and len(z) == s.N, LENGTH)
+    refuse_unless(len(out) == encodings.signature_length(s), LENGTH)
+    refuse_unless(encodings.are_entries(s, entries), CHALLENGE_INDEX)
+    out[:] = encodings.write_entries(s, entries, z)
+    return DONE

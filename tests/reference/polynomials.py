@@ -30,6 +30,10 @@ def are_points(s, points):
     return in_range and all(a < b for a, b in zip(points, points[1:]))
 
 
+def are_evaluations(s, values):
+    return all(value < s.q for value in values)
+
+
 def evaluation(s, a, j):
     """The sum of coefficient i times g to the (i × j), reduced to 0..q-1. The definition, slowly."""
     table = powers(s)

@@ -4,7 +4,7 @@ from typing import NamedTuple
 
 from . import encodings, signing
 from .parameters import SETS
-from .polynomials import are_points, evaluations, is_key, is_mask
+from .polynomials import are_evaluations, are_points, evaluations, is_key, is_mask
 from .refusals import (BYTES_AFTER_END, CHALLENGE_INDEX, EIGHT_MASKS_HELD, END_THE_SESSION, EVALUATION,
                        EXPONENTS, FILE_ENDS, KEY_VALUE, LENGTH, MASK_COEFFICIENT, NOT_HELD,
                        NO_MASK_PASSES, NO_SET_YET, Refused, SET, TAG, UNKNOWN_COMMAND, refuse_unless)
@@ -165,7 +165,7 @@ def check(session, operand):
 def hold_evaluations(session, operand):
     refuse_unless(session.points is not None, NOT_HELD)
     public = encodings.numbers(operand, 3)
-    refuse_unless(all(value < session.set.q for value in public), EVALUATION)
+    refuse_unless(are_evaluations(session.set, public), EVALUATION)
     return session._replace(evaluations=public, key=None), ()
 
 

@@ -74,6 +74,21 @@ def test_encoded_signature():
     assert encodings.challenge_of(HAND, entries) == CHALLENGE and z_read == z
 
 
+def test_readers_and_writers():
+    """The encodings of the first case: each reader and its writer."""
+    cases = ((library.read_secret_key, library.write_secret_key, "00 01FF000100", (KEY,)),
+             (library.read_public_key, library.write_public_key, "00 0001 0002 000007 00001E", (POINTS, [7, 30])),
+             (library.read_signature, library.write_signature, "00 0002 8003 0004 0003 FFFC 0000 0001",
+              ([2, 0x8003], [4, 3, -4, 0, 1])))
+    for read, write, digits, parts in cases:
+        encoded = bytes.fromhex(digits)
+        buffers = tuple([9] * len(part) for part in parts)
+        assert read(encoded, *buffers) == 0 and buffers == parts
+        out = bytearray(len(encoded))
+        assert write(0, *parts, out) == 0 and out == encoded
+        assert read(encoded[:-1], *buffers) == write(0, *parts, out[1:]) == 1 and buffers == parts
+
+
 def test_pool_of_the_message():
     pool = pool_of([256, 511], b"m")
     assert len(pool) == 512 and pool == pool_of([0, 255], b"m") != pool_of([0, 255], b"n")

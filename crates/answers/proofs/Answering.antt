@@ -12,8 +12,13 @@ use borrow.Author.Tests.{ne-eqb}
 use Rattle.algebra.specs.Choice.{pick}
 use Rattle.parameters.specs.Sets.{isSet}
 use Rattle.answers.specs.declared.Answer.the-variants.{Refused}
-use Rattle.answers.specs.Answer.{answerOf, unlessRefused, setByte}
+use Rattle.answers.specs.Answer.{answerOf, unlessRefused, setByte, numberOf}
 use Rattle.answers.proofs.Refusal.{passed, step, equal-iff}
+
+-- to C, an answer is the number that it was made of
+pub numbered : (n : ℕ) → numberOf (answerOf n) ≡ n
+numbered zero = refl
+numbered (suc n) = refl
 
 -- a refused call answers the number, and leaves a buffer as it was
 pub refused : (n : ℕ) → (n ≡ 0 → ⊥) → Refused n ≡ answerOf n

@@ -1,6 +1,6 @@
 // The library for C: each function is one call of it, its answer as a number. include/passign.h declares them.
 ghost use mathlib.Core.Path.{_≡_};
-ghost use Rattle.answers.specs.Answer.{answerOf, numberOf, signingNumber, verdictNumber};
+ghost use Rattle.answers.specs.Answer.{numberOf, signingNumber, verdictNumber};
 ghost use Rattle.entry_check.specs.Check.{checkAnswer};
 ghost use Rattle.passign.specs.Draw.{drawRefusal, drawWritten};
 ghost use Rattle.passign.specs.Evaluate.{evaluateRefusal, evaluateWritten};
@@ -9,6 +9,8 @@ ghost use Rattle.entry_sign.specs.Sign.{signAnswer, signWritten};
 use passign::Answer;
 use passign::Signing;
 use passign::Verdict;
+
+pub mod codec;
 
 fn number(a: Answer) -> u32
     ensures { λ r. ⌜ r ≡ numberOf a ⌝ }
@@ -58,7 +60,7 @@ pub extern "C" fn passign_public_key(
     points: &[u16],
     public_key: &mut [u8],
 ) -> u32
-    ensures answer { λ r. ⌜ r ≡ numberOf (answerOf (publicKeyRefusal (now («secret_key» .entry)) (now (points .entry)) (now («public_key» .entry)))) ⌝ }
+    ensures answer { λ r. ⌜ r ≡ publicKeyRefusal (now («secret_key» .entry)) (now (points .entry)) (now («public_key» .entry)) ⌝ }
     ensures written { λ r. ⌜ now («public_key» .exit) ≡ publicKeyWritten (now («secret_key» .entry)) (now (points .entry)) (now («public_key» .entry)) ⌝ }
 {
     number(passign::keys::public_key(secret_key, points, public_key))
@@ -72,7 +74,7 @@ pub extern "C" fn passign_evaluate(
     points: &[u16],
     evaluations: &mut [u32],
 ) -> u32
-    ensures answer { λ r. ⌜ r ≡ numberOf (answerOf (evaluateRefusal set (now (coefficients .entry)) (now (points .entry)) (now (evaluations .entry)))) ⌝ }
+    ensures answer { λ r. ⌜ r ≡ evaluateRefusal set (now (coefficients .entry)) (now (points .entry)) (now (evaluations .entry)) ⌝ }
     ensures written { λ r. ⌜ now (evaluations .exit) ≡ evaluateWritten set (now (coefficients .entry)) (now (points .entry)) (now (evaluations .entry)) ⌝ }
 {
     number(passign::evaluation::evaluate(set, coefficients, points, evaluations))
@@ -81,7 +83,7 @@ pub extern "C" fn passign_evaluate(
 // 0, else the refusal number.
 #[no_mangle]
 pub extern "C" fn passign_draw(set: u8, pool: &[u8], challenge: &mut [i8]) -> u32
-    ensures answer { λ r. ⌜ r ≡ numberOf (answerOf (drawRefusal set (now (pool .entry)) (now (challenge .entry)))) ⌝ }
+    ensures answer { λ r. ⌜ r ≡ drawRefusal set (now (pool .entry)) (now (challenge .entry)) ⌝ }
     ensures written { λ r. ⌜ now (challenge .exit) ≡ drawWritten set (now (pool .entry)) (now (challenge .entry)) ⌝ }
 {
     number(passign::drawing::draw(set, pool, challenge))
