@@ -35,9 +35,10 @@ use Rattle.entry_sign.specs.Sign.{areMasks, signRefusalIn, signedAnswer, signAn
 use Rattle.entry_check.specs.Check.{checkRefusalIn, checkVerdict, checkAnswerIn, checkAnswer}
 use Rattle.answers.proofs.Apart.{refused-same, refused-not-signed, refused-not-yes, refused-not-no}
 use Rattle.entry_sign.proofs.Allowed.{sign-allowed}
-use Rattle.passign.proofs.Entry.{Known, answer-entry}
+use Rattle.passign.specs.Known.{Known}
+use Rattle.passign.proofs.Entry.{answer-entry}
 use Rattle.session_rules.specs.Commands.{signatureRoom}
-use Rattle.session_rules.proofs.Telling.{isMask, ArePoints, IsKey, AreEvaluations}
+use Rattle.session_rules.proofs.Fits.{isMask, ArePoints, IsKey, AreEvaluations}
 
 -- ---- masks one after the other
 
