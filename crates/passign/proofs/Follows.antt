@@ -24,12 +24,15 @@ use Rattle.passign.proofs.Entry.{sign-entry, answer-entry, written-entr
 
 pub record Follows (l : Library) (m : Made) : Type 0 where
   pub encodable : Encodable (l .draw) (paramsOf l m)
+  -- the signing itself
   pub accepted : signsIn (l .draw) (paramsOf l m) (m .call) ≡ signing.Signed (m .mask)
   pub bytes : m .bytes ≡ writesIn (l .draw) (paramsOf l m) (m .call)
+  -- with another key and a mask alone
   pub signs : (other : List ℕ) → OtherKey l m other → (y : List ℤ)
       → l .signs (offeredAlone (m .call) other y) ≡ signsIn (l .draw) (paramsOf l m) (offeredAlone (m .call) other y)
   pub writes : (other : List ℕ) → OtherKey l m other → (y : List ℤ)
       → l .writes (offeredAlone (m .call) other y) ≡ writesIn (l .draw) (paramsOf l m) (offeredAlone (m .call) other y)
+  -- the check of the signature, under the public key of the key that signed
   pub checks : l .checks (publicKeyIn (paramsOf l m) (m .call .key) (m .call .points)) (m .call .message) (m .bytes) ≡ verdict.Yes
 
 -- any library

@@ -115,15 +115,15 @@ module _ (l : Library) (m : Made) where
   signatureIn = signatureRead paramsOf (m .bytes)
 
   -- the public evaluations of an encoded key at its points
-  abbrev pub evaluationsOf : List ℕ → List ℕ
-  evaluationsOf key = evaluations paramsOf (keyOf key) (m .call .points)
+  abbrev pub publicEvaluations : List ℕ → List ℕ
+  publicEvaluations key = evaluations paramsOf (keyOf key) (m .call .points)
 
   -- another ternary key of the same set, in its encoding: its public evaluations agree with those of the key that signed at each of the points
   pub record OtherKey (other : List ℕ) : Type 0 where
     pub size : length other ≡ secretKeySize paramsOf
     pub set : setByte other ≡ setByte (m .call .key)
     pub ternary : isKey other ≡ true
-    pub same : evaluationsOf other ≡ evaluationsOf (m .call .key)
+    pub same : publicEvaluations other ≡ publicEvaluations (m .call .key)
 
   -- the mask y within k, offered alone with the other key, gives the same commitment, the same challenge and the same signature bytes
   pub record Same (other : List ℕ) (y : List ℤ) : Type 0 where
@@ -136,7 +136,7 @@ module _ (l : Library) (m : Made) where
 
   -- the check, given the signature, the shared public evaluations and the same points and message, says yes
   pub record SaysYes (other : List ℕ) : Type 0 where
-    pub answer : l .checks (publicKey (setByte other) (m .call .points) (evaluationsOf other)) (m .call .message) (m .bytes) ≡ verdict.Yes
+    pub answer : l .checks (publicKey (setByte other) (m .call .points) (publicEvaluations other)) (m .call .message) (m .bytes) ≡ verdict.Yes
 
   -- the mask that does it: the signature's z minus the product ⋆ of the other key and the signature's challenge
   abbrev pub maskFor : List ℕ → List ℤ

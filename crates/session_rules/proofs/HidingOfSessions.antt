@@ -14,16 +14,17 @@ use Rattle.session_rules.proofs.Reaching.{reached-opened}
 use Rattle.session_rules.proofs.Signings.{accepted-each, none-signed}
 
 module _ (file : List ℕ) (buffers : List (List ℕ)) where
-  all-accepted : Every (Accepted entries) (signings (events file buffers))
+  -- each accepted 06 is a signing that the library accepts with what is read, by the mask of that number and with the bytes printed
+  pub signings-accepted : Every (Accepted entries) (signings (events file buffers))
   unfolding signings events
-  all-accepted = accepted-each noMaterial noneAvailable opened reached-opened file buffers
+  signings-accepted = accepted-each noMaterial noneAvailable opened reached-opened file buffers
 
   pub hiding-of-sessions : Hides entries (signings (events file buffers))
-  hiding-of-sessions = library.entry-hiding-of-many (signings (events file buffers)) all-accepted
+  hiding-of-sessions = library.entry-hiding-of-many (signings (events file buffers)) signings-accepted
 
   -- the masks are z - other ⋆ c of the signatures printed
   pub hiding-of-sessions-exactly : HidesExactly entries (signings (events file buffers))
-  hiding-of-sessions-exactly = library.entry-hiding-of-many-exactly (signings (events file buffers)) all-accepted
+  hiding-of-sessions-exactly = library.entry-hiding-of-many-exactly (signings (events file buffers)) signings-accepted
 
   -- a list of plays with no accepted 06 has no signing, and so the empty list of masks
   pub no-signing : HidesNone (events file buffers)

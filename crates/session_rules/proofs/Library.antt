@@ -51,7 +51,7 @@ module _ (p : Params) where
         (and-right (eqb (length y) (p .n)) (within (p .k) y) m, and-right (isMask p y) (all (isMask p) ys) t),
       )
 
-  pub joined-length : (ys : List (List ℤ)) → T (all (isMask p) ys) → length (joined ys) ≡ length ys * p .n
+  joined-length : (ys : List (List ℤ)) → T (all (isMask p) ys) → length (joined ys) ≡ length ys * p .n
   joined-length [] t = sym (zero-mul (p .n))
   joined-length (y ∷ ys) t =
       let (size, (small, rest)) = first-mask y ys t in
