@@ -15,20 +15,16 @@ use Rattle.polynomial.proofs.Bound.{within-take, within-drop}
 use Rattle.encoding.specs.Bytes.{parts}
 use Rattle.encoding.proofs.Parts.{length-parts, parts-at}
 use Rattle.signer.specs.Signer.{masksOf}
-use Rattle.entry_sign.specs.Sign.{maskAt}
+use Rattle.entry_sign.specs.Sign.{offeredCount, maskAt}
 
 module _ (p : Params) (masks : List ℤ) where
-  -- how many masks are offered
-  abbrev pub offeredCount : ℕ
-  offeredCount = length masks / p .n
-
-  pub masks-count : length (masksOf p masks) ≡ offeredCount
+  pub masks-count : length (masksOf p masks) ≡ offeredCount p masks
   masks-count = length-parts (p .n) (length masks / p .n) masks
 
-  pub mask-at : (i : ℕ) → i < offeredCount → getD (masksOf p masks) i [] ≡ maskAt p masks i
+  pub mask-at : (i : ℕ) → i < offeredCount p masks → getD (masksOf p masks) i [] ≡ maskAt p masks i
   mask-at = parts-at (p .n) (length masks / p .n) masks
 
-  pub mask-size : (i : ℕ) → i < offeredCount → length (maskAt p masks i) ≡ p .n
+  pub mask-size : (i : ℕ) → i < offeredCount p masks → length (maskAt p masks i) ≡ p .n
   mask-size i h =
       length-take-le (p .n) (drop (i * p .n) masks)
       (omega (arith, length-drop (i * p .n) masks, mul-le-mul-right (p .n) h, div-mul-le-self (length masks) (p .n), suc-mul i (p .n)))

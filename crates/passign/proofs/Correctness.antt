@@ -22,13 +22,14 @@ use Rattle.answers.specs.Answer.{setByte}
 use Rattle.entry_sign.specs.Sign.{signAnswerIn, signWrittenIn, signAnswer, signWritten}
 use Rattle.entry_check.specs.Check.{checkRefusalIn, checkAnswerIn, checkAnswer}
 use Rattle.passign.specs.Keys.{publicKeyRefusal, publicKeyIn, publicKeyWritten}
+use Rattle.passign.specs.VerdictRule.{Rule}
 use Rattle.passign.specs.Hiding.{Encodable}
 use Rattle.answers.proofs.Apart.{refused-not-signed, refused-not-yes}
 use Rattle.entry_check.proofs.Allowed.{check-allowed}
 use Rattle.passign.proofs.Encoded.{PublicKeyRead, public-key-read, signature-size, entries-allowed}
 use Rattle.entry_sign.proofs.AcceptedSigning.{SignedAs, signed-bytes, accepted-signing, signing-of, allowed-of, size-of-key}
 use Rattle.passign.proofs.AcceptedBytes.{writable, meaning}
-use Rattle.passign.proofs.VerdictRule.{Rule, verdict-yes}
+use Rattle.passign.proofs.VerdictRule.{verdict-yes}
 use Rattle.passign.proofs.FiveSets.{set-encodable}
 use Rattle.passign.proofs.Entry.{sign-entry, written-entry, check-entry, public-key-entry}
 
@@ -66,7 +67,7 @@ module _ {draw : Drawer} {p : Params} (e : Encodable draw p) (key points : List 
 
 -- the bytes written begin with the key's set, so they are not empty
 module _ (p : Params) (key points : List ℕ) where
-  set-of-public-key : setByte (publicKeyIn p key points) ≡ setByte key
+  pub set-of-public-key : setByte (publicKeyIn p key points) ≡ setByte key
   unfolding publicKeyIn publicKey
   set-of-public-key = refl
 

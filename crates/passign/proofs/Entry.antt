@@ -3,7 +3,7 @@
 use mathlib.Core.Path.{_≡_}
 use mathlib.Core.List.{List}
 use mathlib.Core.Logic.{_↔_, Iff·rfl}
-use Prim.Native.Nat.{ℕ, _≤_, _<_}
+use Prim.Native.Nat.{ℕ}
 use lib.Dec.{eqb}
 use lib.IntN.{ℤ}
 use lib.ListN.{length}
@@ -18,13 +18,8 @@ use Rattle.answers.specs.Answer.{setByte, isLong}
 use Rattle.entry_sign.specs.Sign.{signAnswerIn, signWrittenIn, signAnswer, signWritten}
 use Rattle.entry_check.specs.Check.{checkAnswerIn, checkAnswer}
 use Rattle.passign.specs.Keys.{publicKeyRefusal, publicKeyIn, publicKeyWritten}
+use Rattle.passign.specs.Known.{Known, KnownBoth}
 use Rattle.answers.proofs.Refusal.{passed, passed-not, equal-iff}
-
--- the message is not too long, the key is not empty, and its first byte is a set
-pub record Known (key message : List ℕ) : Type 0 where
-  pub message-size : length message ≤ 65535
-  pub key-some : length key ≡ 0 → ⊥
-  pub set : setByte key < 5
 
 -- a signing that ends in y, which is neither refusal of a lookup
 pub sign-entry : {y : Signing} → (signing.Refused 1 ≡ y → ⊥) → (signing.Refused 2 ≡ y → ⊥) → (key points : List ℕ) (masks : List ℤ) (message out : List ℕ)
@@ -55,12 +50,7 @@ module _ (key points : List ℕ) (masks : List ℤ) (message out : List ℕ) (k 
   unfolding signWritten
   written-entry = rw (le-ltb 65535 (length message) (k .message-size), ne-eqb (length key) 0 (k .key-some), lt-ltb (setByte key) 5 (k .set))
 
--- a check too: the signature is not empty and has the key's set
-pub record KnownBoth (key message signature : List ℕ) : Type 0 where
-  pub known : Known key message
-  pub signature-some : length signature ≡ 0 → ⊥
-  pub same-set : setByte signature ≡ setByte key
-
+-- a check that ends in y
 pub check-entry : {y : Verdict} → (verdict.Refused 1 ≡ y → ⊥) → (verdict.Refused 2 ≡ y → ⊥) → (key message signature : List ℕ)
     → (checkAnswer key message signature ≡ y) ↔ (KnownBoth key message signature × (checkAnswerIn drawChallenge (setOf (setByte key)) key message signature ≡ y))
 unfolding checkAnswer

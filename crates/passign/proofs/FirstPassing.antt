@@ -10,7 +10,7 @@ use Prim.Native.Nat.{ℕ, _<_}
 use native.Mathlib.Omega.{arith}
 use lib.Dec.{T, ltb, eqb, ltb→lt, lit<}
 use lib.IntN.{ℤ}
-use lib.ListN.{length, getD, take}
+use lib.ListN.{length, getD}
 use Rattle.algebra.specs.Choice.{pick}
 use Rattle.parameters.specs.declared.Params.{Params}
 use Rattle.parameters.specs.Sets.{setOf}
@@ -18,17 +18,18 @@ use Rattle.polynomial.specs.Polynomial.{within}
 use Rattle.polynomial.specs.Evaluation.{evaluations}
 use Rattle.challenge.specs.Draw.{drawChallenge}
 use Rattle.encoding.specs.Encoding.{secretKeySize, signatureSize, arePoints, isKey, keyOf}
-use Rattle.scheme.specs.Scheme.{Drawer, Signature, Signed, attempt}
-use Rattle.scheme.proofs.FirstPassing.{first-passing, none-passing, passed-over, failures}
-use Rattle.signer.specs.Signer.{masksOf, signatureOf, signedBy}
+use Rattle.scheme.specs.Scheme.{Drawer, Signed, attempt}
+use Rattle.scheme.proofs.FirstPassing.{first-passing, none-passing, passed-over}
+use Rattle.signer.specs.Signer.{masksOf, signedBy}
 use Rattle.answers.specs.declared.Signing.the-variants as answer
 use Rattle.answers.specs.Answer.{setByte}
-use Rattle.entry_sign.specs.Sign.{areMasks, signRefusalIn, signedAnswer, signAnswerIn, signWrittenIn, signAnswer, signWritten, maskAt}
+use Rattle.entry_sign.specs.Sign.{areMasks, offeredCount, maskAt, signRefusalIn, signedAnswer, signAnswerIn, signWrittenIn, signAnswer, signWritten}
+use Rattle.passign.specs.FirstPassing.{attemptAt, failuresBefore, NoMask, FirstSigns, SignUnrefused}
 use Rattle.answers.proofs.Apart.{refused-same, refused-not-signed}
 use Rattle.answers.proofs.Refusal.{chosen, equal-iff}
-use Rattle.entry_sign.proofs.Masks.{offeredCount, masks-count, mask-at}
+use Rattle.entry_sign.proofs.Masks.{masks-count, mask-at}
 use Rattle.entry_sign.proofs.AcceptedSigning.{SignedAs, signed-answer, signed-bytes, accepted-signing, signing-of, first-of, offered}
-use Rattle.passign.proofs.Entry.{Known, sign-entry, written-entry}
+use Rattle.passign.proofs.Entry.{sign-entry, written-entry}
 
 -- no test of `sign` answers 9
 low : (t : Bool) (m : ℕ) {x : ℕ} → T (ltb m 9) → x < 9 → pick t m x < 9
@@ -47,37 +48,11 @@ answer-none none = (λ e. refl, λ e. refl)
 answer-none (some r) = (λ e. absurd (refused-not-signed (sym e)), λ e. absurd (Option·none-ne-some r (sym e)))
 
 module _ (draw : Drawer) (p : Params) (key points : List ℕ) (masks : List ℤ) (message : List ℕ) where
-  -- what mask number i gives with the key
-  abbrev pub attemptAt : ℕ → Option Signature
-  attemptAt i = attempt draw p points message (keyOf key) (maskAt p masks i)
-
-  -- the count of the first i masks that fail
-  abbrev pub failuresBefore : ℕ → ℕ
-  failuresBefore i = failures draw p points message (keyOf key) (take i (masksOf p masks))
-
-  -- mask number i is offered and the first that passes, with the signature s
-  pub record FirstMask (s : Signature) (i : ℕ) : Type 0 where
-    pub offered : i < offeredCount p masks
-    pub passes : attemptAt i ≡ some s
-    pub earlier : (j : ℕ) → j < i → attemptAt j ≡ none
-
-  -- no mask that is offered passes
-  abbrev pub NoMask : Type 0
-  NoMask = (j : ℕ) → j < offeredCount p masks → attemptAt j ≡ none
-
-  -- mask number i signs with these bytes: it is the first that passes, the number of masks before it is the count of those that fail, and the
-  -- bytes are its signature's
-  pub record FirstSigns (written : List ℕ) (i : ℕ) : Type 0 where
-    pub signature : Signature
-    pub first : FirstMask signature i
-    pub counts : failuresBefore i ≡ i
-    pub bytes : written ≡ signatureOf (setByte key) signature
-
   -- mask number j, from the list of masks
-  attempt-at : (j : ℕ) → j < offeredCount p masks → attempt draw p points message (keyOf key) (getD (masksOf p masks) j []) ≡ attemptAt j
+  attempt-at : (j : ℕ) → j < offeredCount p masks → attempt draw p points message (keyOf key) (getD (masksOf p masks) j []) ≡ attemptAt draw p key points masks message j
   attempt-at j h = ap (attempt draw p points message (keyOf key)) (mask-at p masks j h)
 
-  none-iff : (signedBy draw p (keyOf key) points masks message ≡ none) ↔ NoMask
+  none-iff : (signedBy draw p (keyOf key) points masks message ≡ none) ↔ NoMask draw p key points masks message
   unfolding signedBy
   none-iff =
       let n = none-passing draw p points message (keyOf key) (masksOf p masks) in
@@ -87,7 +62,7 @@ module _ (draw : Drawer) (p : Params) (key points : List ℕ) (masks : List ℤ)
       )
 
   module _ (out : List ℕ) where
-    first-out : {r : Signed} {i : ℕ} → SignedAs draw p key points masks message out r i → FirstSigns (signWrittenIn draw p key points masks message out) i
+    first-out : {r : Signed} {i : ℕ} → SignedAs draw p key points masks message out r i → FirstSigns draw p key points masks message (signWrittenIn draw p key points masks message out) i
     first-out {r} {i} a =
         let w = first-of a in
         let l = offered a in
@@ -98,11 +73,11 @@ module _ (draw : Drawer) (p : Params) (key points : List ℕ) (masks : List ℤ)
             passes = sym (attempt-at i l) ∙ ap (λ (j : ℕ). attempt draw p points message (keyOf key) (getD (masksOf p masks) j [])) (sym (a .place)) ∙ w .passes;
             earlier = λ j h. sym (attempt-at j (omega arith)) ∙ w .earlier j (omega (arith, a .place));
           };
-          counts = ap failuresBefore (sym (a .place)) ∙ passed-over draw p points message (keyOf key) (masksOf p masks) r (signing-of a) ∙ a .place;
+          counts = ap (failuresBefore draw p key points masks message) (sym (a .place)) ∙ passed-over draw p points message (keyOf key) (masksOf p masks) r (signing-of a) ∙ a .place;
           bytes = signed-bytes a;
         }
 
-    first-in : {i : ℕ} → signRefusalIn p key points masks (length out) ≡ 0 → {written : List ℕ} → FirstSigns written i
+    first-in : {i : ℕ} → signRefusalIn p key points masks (length out) ≡ 0 → {written : List ℕ} → FirstSigns draw p key points masks message written i
         → signAnswerIn draw p key points masks message out ≡ answer.Signed i
     unfolding signedBy
     first-in {i} allowed w =
@@ -121,14 +96,14 @@ module _ (draw : Drawer) (p : Params) (key points : List ℕ) (masks : List ℤ)
 
     -- a signing in any set, with any way to draw: it is accepted by the first mask that passes
     pub first-signs : (i : ℕ) → (signAnswerIn draw p key points masks message out ≡ answer.Signed i)
-        ↔ ((signRefusalIn p key points masks (length out) ≡ 0) × FirstSigns (signWrittenIn draw p key points masks message out) i)
+        ↔ ((signRefusalIn p key points masks (length out) ≡ 0) × FirstSigns draw p key points masks message (signWrittenIn draw p key points masks message out) i)
     first-signs i = (
       λ e. let w = accepted-signing draw p key points masks message out e in (w .1 .allowed, first-out (w .1)),
       λ h. first-in (h .0) (h .1),
     )
 
     -- and refused with 9 where none passes
-    pub none-signs : (signAnswerIn draw p key points masks message out ≡ answer.Refused 9) ↔ ((signRefusalIn p key points masks (length out) ≡ 0) × NoMask)
+    pub none-signs : (signAnswerIn draw p key points masks message out ≡ answer.Refused 9) ↔ ((signRefusalIn p key points masks (length out) ≡ 0) × NoMask draw p key points masks message)
     unfolding signAnswerIn
     none-signs =
         Iff·trans
@@ -141,13 +116,8 @@ module _ (key points : List ℕ) (masks : List ℤ) (message out : List ℕ) whe
   abbrev in-set : Params
   in-set = setOf (setByte key)
 
-  -- nothing refuses: the set and the set's own tests
-  pub record SignUnrefused : Type 0 where
-    pub known : Known key message
-    pub allowed : signRefusalIn in-set key points masks (length out) ≡ 0
-
   pub entry-first-signs : (i : ℕ) → (signAnswer key points masks message out ≡ answer.Signed i)
-      ↔ (SignUnrefused × FirstSigns drawChallenge in-set key points masks message (signWritten key points masks message out) i)
+      ↔ (SignUnrefused key points masks message out × FirstSigns drawChallenge in-set key points masks message (signWritten key points masks message out) i)
   entry-first-signs i =
       let entry = sign-entry refused-not-signed refused-not-signed key points masks message out in
       let signs = first-signs drawChallenge in-set key points masks message out i in (
@@ -158,7 +128,7 @@ module _ (key points : List ℕ) (masks : List ℤ) (message out : List ℕ) whe
         λ h. entry .1 (h .0 .known, signs .1 (h .0 .allowed, rw (written-entry key points masks message out (h .0 .known)) at (h .1))),
       )
 
-  pub entry-none-signs : (signAnswer key points masks message out ≡ answer.Refused 9) ↔ (SignUnrefused × NoMask drawChallenge in-set key points masks message)
+  pub entry-none-signs : (signAnswer key points masks message out ≡ answer.Refused 9) ↔ (SignUnrefused key points masks message out × NoMask drawChallenge in-set key points masks message)
   entry-none-signs =
       let entry = sign-entry {y = answer.Refused 9} (λ e. let n : _≡_ {A = ℕ} 1 9 = refused-same e in omega arith)
       (λ e. let n : _≡_ {A = ℕ} 2 9 = refused-same e in omega arith) key points masks message out in

@@ -6,12 +6,13 @@ use mathlib.Core.List.{List, [], _∷_, zipWith}
 use mathlib.Core.Logic.{_↔_}
 use Prim.Native.Nat.{ℕ}
 use lib.IntN.{ℤ}
-use Rattle.challenge.specs.Draw.{drawChallenge}
+use Rattle.parameters.specs.declared.Params.{Params}
 use Rattle.scheme.specs.Scheme.{Drawer}
-use Rattle.scheme.specs.Hiding.{ExactlyOne}
-use Rattle.entry_check.specs.Check.{signatureRead}
-use Rattle.passign.specs.Hiding.{signatureIn, OtherKey, Same, SaysYes, maskFor, setIn, writtenBy, EntrySame, EntrySaysYes, AcceptedCall, AcceptedEntry, Each, Each₃}
-use Rattle.passign.proofs.Hiding.{exactly-one, hiding-exactly, hiding-verdict, entry-hiding-exactly, entry-hiding-verdict}
+use Rattle.scheme.proofs.ExactlyOne.{exactly-one}
+use Rattle.passign.specs.Hiding.{Encodable, Library, anyLibrary, entries, Made, paramsOf, Accepted, Same, maskFor, Every, Each, Each₃, Hides, HidesExactly}
+use Rattle.passign.proofs.Follows.{Follows, any-follows, entries-follow}
+use Rattle.passign.proofs.OtherMask.{same-iff}
+use Rattle.passign.proofs.Hiding.{says-yes}
 
 -- ---- exactly one for each is exactly one list
 
@@ -40,65 +41,46 @@ module _ {A B C : Type 0} (R : A → B → C → Type 0) (one : A → B → C) w
   each-exactly l bs n cs = (each-to l bs n cs, λ e. subst (λ (x : List C). Each₃ R l bs x) (sym e) (each-of l bs n))
 
 -- what follows at each place
-each-map : {A B : Type 0} {P Q : A → B → Type 0} → ((a : A) (b : B) → P a b → Q a b) → (l : List A) (bs : List B) → Each P l bs → Each Q l bs
-each-map f [] [] t = tt
-each-map f [] (b ∷ bs) t = absurd t
-each-map f (a ∷ l) [] t = absurd t
-each-map f (a ∷ l) (b ∷ bs) t = (f a b (t .0), each-map f l bs (t .1))
+every-map : {A : Type 0} {P Q : A → Type 0} → ((a : A) → P a → Q a) → (l : List A) → Every P l → Every Q l
+every-map f [] t = tt
+every-map f (a ∷ l) t = (f a (t .0), every-map f l (t .1))
 
--- ---- signings in any sets, with any way to draw
+each-map : {A B : Type 0} {P : A → Type 0} {Q R : A → B → Type 0} → ((a : A) → P a → (b : B) → Q a b → R a b)
+    → (l : List A) → Every P l → (bs : List B) → Each Q l bs → Each R l bs
+each-map f [] p [] t = tt
+each-map f [] p (b ∷ bs) t = absurd t
+each-map f (a ∷ l) p [] t = absurd t
+each-map f (a ∷ l) p (b ∷ bs) t = (f a (p .0) b (t .0), each-map f l (p .1) bs (t .1))
 
-module _ (draw : Drawer) where
-  -- other keys, one for each signing
-  abbrev pub OtherKeys : List (AcceptedCall draw) → List (List ℕ) → Type 0
-  OtherKeys = Each (λ (m : AcceptedCall draw) (other : List ℕ). OtherKey draw (m .p) (m .call) other)
+-- ---- from one signing to lists
 
-  -- the masks do at every place what the signing there did
-  abbrev pub SameEach : List (AcceptedCall draw) → List (List ℕ) → List (List ℤ) → Type 0
-  SameEach = Each₃ (λ (m : AcceptedCall draw) (other : List ℕ) (y : List ℤ). Same draw (m .p) (m .call) (m .i) other y)
+module _ (l : Library) (ms : List Made) (f : Every (Follows l) ms) where
+  hides-exactly : HidesExactly l ms
+  hides-exactly others o = each-exactly (Same l) (maskFor l) ms others (each-map (λ m f. same-iff f) ms f others o)
 
-  -- the mask of each place: z - other ⋆ c
-  abbrev pub masksFor : List (AcceptedCall draw) → List (List ℕ) → List (List ℤ)
-  masksFor = zipWith (λ (m : AcceptedCall draw) (other : List ℕ). maskFor (signatureIn draw (m .p) (m .call)) other)
+  hides : Hides l ms
+  hides others o = (exactly-one (zipWith (maskFor l) ms others) (hides-exactly others o), each-map (λ m f. says-yes f) ms f others o)
 
-  module _ (signings : List (AcceptedCall draw)) (others : List (List ℕ)) (o : OtherKeys signings others) where
-    pub hiding-of-many-exactly : (ys : List (List ℤ)) → SameEach signings others ys ↔ (ys ≡ masksFor signings others)
-    hiding-of-many-exactly =
-        each-exactly (λ (m : AcceptedCall draw) (other : List ℕ) (y : List ℤ). Same draw (m .p) (m .call) (m .i) other y)
-        (λ (m : AcceptedCall draw) (other : List ℕ). maskFor (signatureIn draw (m .p) (m .call)) other) signings others
-        (each-map (λ m other h. hiding-exactly (m .encodable) (m .call) (m .accepted) other h) signings others o)
+-- ---- any numbering of sets, with any way to draw
 
-    unfoldable pub hiding-of-many : ExactlyOne (SameEach signings others)
-    hiding-of-many = exactly-one (masksFor signings others) hiding-of-many-exactly
+module _ (set : ℕ → Params) (draw : Drawer) (ms : List Made)
+    (accepted : Every (λ (m : Made). Encodable draw (paramsOf (anyLibrary set draw) m) × Accepted (anyLibrary set draw) m) ms) where
+  pub hiding-of-many : Hides (anyLibrary set draw) ms
+  hiding-of-many = hides (anyLibrary set draw) ms (every-map (λ m a. any-follows m (a .0) (a .1)) ms accepted)
 
-    pub hiding-of-many-verdicts : Each (λ (m : AcceptedCall draw) (other : List ℕ). SaysYes draw (m .p) (m .call) other) signings others
-    hiding-of-many-verdicts = each-map (λ m other h. hiding-verdict (m .encodable) (m .call) (m .accepted) other h) signings others o
-
-  -- no signing: the empty list of masks, and no other
-  pub no-signing : (ys : List (List ℤ)) → SameEach [] [] ys ↔ (ys ≡ [])
-  unfolding zipWith
-  no-signing = hiding-of-many-exactly [] [] tt
+  pub hiding-of-many-exactly : HidesExactly (anyLibrary set draw) ms
+  hiding-of-many-exactly = hides-exactly (anyLibrary set draw) ms (every-map (λ m a. any-follows m (a .0) (a .1)) ms accepted)
 
 -- ---- the entries `sign` and `check`, each signing in one of the five sets
 
-abbrev pub EntryOtherKeys : List AcceptedEntry → List (List ℕ) → Type 0
-EntryOtherKeys = Each (λ (m : AcceptedEntry) (other : List ℕ). OtherKey drawChallenge (setIn (m .call)) (m .call) other)
+module _ (ms : List Made) (accepted : Every (Accepted entries) ms) where
+  pub entry-hiding-of-many : Hides entries ms
+  entry-hiding-of-many = hides entries ms (every-map entries-follow ms accepted)
 
-abbrev pub EntrySameEach : List AcceptedEntry → List (List ℕ) → List (List ℤ) → Type 0
-EntrySameEach = Each₃ (λ (m : AcceptedEntry) (other : List ℕ) (y : List ℤ). EntrySame (m .call) (m .i) other y)
+  pub entry-hiding-of-many-exactly : HidesExactly entries ms
+  entry-hiding-of-many-exactly = hides-exactly entries ms (every-map entries-follow ms accepted)
 
-abbrev pub entryMasksFor : List AcceptedEntry → List (List ℕ) → List (List ℤ)
-entryMasksFor = zipWith (λ (m : AcceptedEntry) (other : List ℕ). maskFor (signatureRead (setIn (m .call)) (writtenBy (m .call))) other)
-
-module _ (signings : List AcceptedEntry) (others : List (List ℕ)) (o : EntryOtherKeys signings others) where
-  pub entry-hiding-of-many-exactly : (ys : List (List ℤ)) → EntrySameEach signings others ys ↔ (ys ≡ entryMasksFor signings others)
-  entry-hiding-of-many-exactly =
-      each-exactly (λ (m : AcceptedEntry) (other : List ℕ) (y : List ℤ). EntrySame (m .call) (m .i) other y)
-      (λ (m : AcceptedEntry) (other : List ℕ). maskFor (signatureRead (setIn (m .call)) (writtenBy (m .call))) other) signings others
-      (each-map (λ m other h. entry-hiding-exactly (m .call) (m .accepted) other h) signings others o)
-
-  unfoldable pub entry-hiding-of-many : ExactlyOne (EntrySameEach signings others)
-  entry-hiding-of-many = exactly-one (entryMasksFor signings others) entry-hiding-of-many-exactly
-
-  pub entry-hiding-of-many-verdicts : Each (λ (m : AcceptedEntry) (other : List ℕ). EntrySaysYes (m .call) other) signings others
-  entry-hiding-of-many-verdicts = each-map (λ m other h. entry-hiding-verdict (m .call) (m .accepted) other h) signings others o
+-- no signing: the empty list of masks, and no other
+pub no-signing : (l : Library) (ys : List (List ℤ)) → Each₃ (Same l) [] [] ys ↔ (ys ≡ [])
+unfolding zipWith
+no-signing l = hides-exactly l [] tt [] tt

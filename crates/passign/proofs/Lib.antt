@@ -10,4 +10,4 @@ pub mod Entry
 pub mod Encoded
 pub mod AcceptedBytes
 pub mod OtherMask
-pub mod OtherEntry
+pub mod Follows

@@ -23,14 +23,15 @@ use Rattle.scheme.proofs.Attempt.{attempt-iff}
 use Rattle.scheme.proofs.FirstPassing.{first-passing}
 use Rattle.scheme.proofs.Hiding as polynomials
 use Rattle.signer.specs.Signer.{masksOf, signatureOf, signedBy}
-use Rattle.entry_sign.specs.Sign.{areMasks}
+use Rattle.entry_sign.specs.Sign.{areMasks, offeredCount}
 use Rattle.entry_check.specs.Check.{signatureRead}
-use Rattle.passign.specs.Hiding.{Encodable, Call, signatureIn, OtherKey, Same, maskFor}
+use Rattle.passign.specs.Hiding.{Library, Made, paramsOf, signatureIn, OtherKey, Same, maskFor}
 use Rattle.entry_sign.proofs.Allowed.{sign-allowed}
-use Rattle.entry_sign.proofs.Masks.{offeredCount, masks-count, mask-at, mask-size, mask-alone}
+use Rattle.entry_sign.proofs.Masks.{masks-count, mask-at, mask-size, mask-alone}
 use Rattle.layout.proofs.EncodedKey.{key-size, key-ternary}
 use Rattle.entry_sign.proofs.AcceptedSigning.{SignedAs, accepted-signing, signed-answer, signed-bytes, signing-of, allowed-of, size-of-key, commitment-of}
 use Rattle.passign.proofs.AcceptedBytes.{meaning}
+use Rattle.passign.proofs.Follows.{Follows}
 
 signed-is : (r : Signed) {n : ℕ} {w : List ℕ} {s : Signature} → r .passedOver ≡ n → r .commitment ≡ w → r .signature ≡ s
     → r ≡ record { passedOver = n; commitment = w; signature = s }
@@ -46,86 +47,99 @@ one-mask p y e =
     (and-intro (eqb (length y % p .n) 0) (leb (length y) (8 * p .n)) (true-holds (eq-eqb (length y % p .n) 0 (ap (λ (m : ℕ). m % p .n) e ∙ mod-self (p .n))))
     (le→leb (length y) (8 * p .n) (omega arith)))
 
-module _ {draw : Drawer} {p : Params} (e : Encodable draw p) (call : Call) {r : Signed} {i : ℕ}
-    (a : SignedAs draw p (call .key) (call .points) (call .masks) (call .message) (call .out) r i)
-    (other : List ℕ) (o : OtherKey draw p call other) (y : List ℤ) where
-  -- the points and the message of both signings
+module _ {l : Library} {m : Made} (f : Follows l m) where
+  -- the points and the message of both signings, their set, and the way to draw
   abbrev points : List ℕ
-  points = call .points
+  points = m .call .points
 
   abbrev message : List ℕ
-  message = call .message
+  message = m .call .message
 
-  has-coefficients : 0 < p .n
-  has-coefficients = omega (arith, e .fitting .points)
+  abbrev p : Params
+  p = paramsOf l m
 
-  -- the signing with the other key and the mask alone, on polynomials
-  alone : length y ≡ p .n → (s : Signed) → (signedBy draw p (keyOf other) points y message ≡ some s) ↔ (signing draw p points message 0 (keyOf other) (y ∷ []) ≡ some s)
-  unfolding signedBy
-  alone size s =
-      let is = ap (λ (ys : List (List ℤ)). signing draw p points message 0 (keyOf other) ys) (mask-alone p y has-coefficients size) in
-      (λ h. sym is ∙ h, λ h. is ∙ h)
+  abbrev draw : Drawer
+  draw = l .draw
 
-  meant : signatureIn draw p call ≡ r .signature
-  meant = meaning a e
+  module _ {r : Signed} (a : SignedAs draw p (m .call .key) points (m .call .masks) message (m .call .out) r (m .mask)) where
+    meant : signatureIn l m ≡ r .signature
+    meant = ap (signatureRead p) (f .bytes) ∙ meaning a (f .encodable)
 
-  same-of-gives : Gives draw p points message (keyOf other) (r .commitment) (r .signature) y → Same draw p call i other y
-  same-of-gives g =
-      let k = allowed-of a in
-      let w = first-passing draw p points message (keyOf other) (y ∷ []) _ .0 (g .signs) in
-      let u : SignedAs draw p other points y message (call .out) (record { passedOver = 0; commitment = r .commitment; signature = r .signature }) 0 = record {
-        allowed = sign-allowed p other points y (length (call .out)) .1 (record {
-          key-size = o .size;
-          points-size = k .points-size;
-          masks-size = one-mask p y (g .size);
-          room-size = k .room-size;
-          points-rise = k .points-rise;
-          ternary = o .ternary;
-          small = holds-true (within (p .k) y) (g .small);
-        });
-        signs = alone (g .size) _ .1 (g .signs);
-        place = refl;
-      } in
-      record {
-        size = g .size;
-        small = g .small;
-        commitment = w .commits ∙ sym (commitment-of a);
-        challenge =
-            attempt-iff draw p points message (keyOf other) y (r .signature) .0 (w .passes) .challenge
-            ∙ ap (λ (s : Signature). some (s .c)) (sym meant);
-        answer = signed-answer u;
-        bytes = signed-bytes u ∙ ap (λ (s : ℕ). signatureOf s (r .signature)) (o .set) ∙ sym (signed-bytes a);
-      }
+    module _ (other : List ℕ) (o : OtherKey l m other) (y : List ℤ) where
+      -- the signing with the other key and the mask alone, on polynomials
+      alone : length y ≡ p .n → (s : Signed) → (signedBy draw p (keyOf other) points y message ≡ some s) ↔ (signing draw p points message 0 (keyOf other) (y ∷ []) ≡ some s)
+      unfolding signedBy
+      alone size s =
+          let some-coefficients : 0 < p .n = omega (arith, f .encodable .fitting .points) in
+          let is = ap (λ (ys : List (List ℤ)). signing draw p points message 0 (keyOf other) ys) (mask-alone p y some-coefficients size) in
+          (λ h. sym is ∙ h, λ h. is ∙ h)
 
-  -- the bytes decide the signature, since they are read back
-  module _ (s : Same draw p call i other y) {t : Signed} (v : SignedAs draw p other points y message (call .out) t 0) where
-    signs-alone : signing draw p points message 0 (keyOf other) (y ∷ []) ≡ some t
-    signs-alone = alone (s .size) t .0 (v .signs)
+      same-of-gives : Gives draw p points message (keyOf other) (r .commitment) (r .signature) y → Same l m other y
+      same-of-gives g =
+          let k = allowed-of a in
+          let w = first-passing draw p points message (keyOf other) (y ∷ []) _ .0 (g .signs) in
+          let u : SignedAs draw p other points y message (m .call .out) (record { passedOver = 0; commitment = r .commitment; signature = r .signature }) 0 = record {
+            allowed = sign-allowed p other points y (length (m .call .out)) .1 (record {
+              key-size = o .size;
+              points-size = k .points-size;
+              masks-size = one-mask p y (g .size);
+              room-size = k .room-size;
+              points-rise = k .points-rise;
+              ternary = o .ternary;
+              small = holds-true (within (p .k) y) (g .small);
+            });
+            signs = alone (g .size) _ .1 (g .signs);
+            place = refl;
+          } in
+          record {
+            size = g .size;
+            small = g .small;
+            commitment = w .commits ∙ sym (commitment-of a);
+            challenge =
+                attempt-iff draw p points message (keyOf other) y (r .signature) .0 (w .passes) .challenge
+                ∙ ap (λ (s : Signature). some (s .c)) (sym meant);
+            answer = f .signs other o y ∙ signed-answer u;
+            bytes =
+                f .writes other o y ∙ signed-bytes u ∙ ap (λ (s : ℕ). signatureOf s (r .signature)) (o .set)
+                ∙ sym (f .bytes ∙ signed-bytes a);
+          }
 
-    same-signature : t .signature ≡ r .signature
-    same-signature = sym (meaning v e) ∙ ap (signatureRead p) (s .bytes) ∙ meant
+      -- the bytes decide the signature, since they are read back
+      module _ (s : Same l m other y) {t : Signed} (v : SignedAs draw p other points y message (m .call .out) t 0) where
+        signs-alone : signing draw p points message 0 (keyOf other) (y ∷ []) ≡ some t
+        signs-alone = alone (s .size) t .0 (v .signs)
 
-    same-commitment : t .commitment ≡ r .commitment
-    same-commitment =
-        sym (first-passing draw p points message (keyOf other) (y ∷ []) t .0 signs-alone .commits)
-        ∙ ap (λ (j : ℕ). evaluations p (getD (y ∷ []) j []) points) (v .place)
-        ∙ s .commitment ∙ commitment-of a
+        same-signature : t .signature ≡ r .signature
+        same-signature = sym (meaning v (f .encodable)) ∙ ap (signatureRead p) (sym (f .writes other o y) ∙ s .bytes) ∙ meant
 
-    gives-of-same : Gives draw p points message (keyOf other) (r .commitment) (r .signature) y
-    gives-of-same = record { size = s .size; small = s .small; signs = signs-alone ∙ ap some (signed-is t (v .place) same-commitment same-signature) }
+        same-commitment : t .commitment ≡ r .commitment
+        same-commitment =
+            sym (first-passing draw p points message (keyOf other) (y ∷ []) t .0 signs-alone .commits)
+            ∙ ap (λ (j : ℕ). evaluations p (getD (y ∷ []) j []) points) (v .place)
+            ∙ s .commitment ∙ commitment-of a
 
-  same-iff-gives : Same draw p call i other y ↔ Gives draw p points message (keyOf other) (r .commitment) (r .signature) y
-  same-iff-gives = (λ s. gives-of-same s (accepted-signing draw p other points y message (call .out) (s .answer) .1), same-of-gives)
+        gives-of-same : Gives draw p points message (keyOf other) (r .commitment) (r .signature) y
+        gives-of-same = record { size = s .size; small = s .small; signs = signs-alone ∙ ap some (signed-is t (v .place) same-commitment same-signature) }
 
--- so it does exactly when it is z - other ⋆ c
-pub same-iff : {draw : Drawer} {p : Params} → Encodable draw p → (call : Call) {r : Signed} {i : ℕ}
-    → SignedAs draw p (call .key) (call .points) (call .masks) (call .message) (call .out) r i
-    → (other : List ℕ) → OtherKey draw p call other → (y : List ℤ) → Same draw p call i other y ↔ (y ≡ maskFor (signatureIn draw p call) other)
-same-iff {draw} {p} e call {r} a other o y =
-    let sizes : (j : ℕ) → j < length (masksOf p (call .masks)) → length (getD (masksOf p (call .masks)) j []) ≡ p .n = λ j h.
-    let l : j < offeredCount p (call .masks) = omega (arith, masks-count p (call .masks)) in
-    ap length (mask-at p (call .masks) j l) ∙ mask-size p (call .masks) j l in
-    rw (meaning a e)
-    (Iff·trans (same-iff-gives e call a other o y)
-    (polynomials.hiding-exactly draw (e .sound) (e .draws) (call .points) (call .message) (keyOf (call .key)) (masksOf p (call .masks)) r (size-of-key a) sizes (signing-of a)
-    (keyOf other) (key-size p other (o .size)) (key-ternary other (o .ternary)) (o .same) y))
+      same-iff-gives : Same l m other y ↔ Gives draw p points message (keyOf other) (r .commitment) (r .signature) y
+      same-iff-gives = (
+        λ s. gives-of-same s (accepted-signing draw p other points y message (m .call .out) (sym (f .signs other o y) ∙ s .answer) .1),
+        same-of-gives,
+      )
+
+      -- the law on polynomials
+      gives-iff : Gives draw p points message (keyOf other) (r .commitment) (r .signature) y ↔ (y ≡ maskFor l m other)
+      gives-iff =
+          let masks = m .call .masks in
+          let sizes : (j : ℕ) → j < length (masksOf p masks) → length (getD (masksOf p masks) j []) ≡ p .n = λ j h.
+          let h : j < offeredCount p masks = omega (arith, masks-count p masks) in
+          ap length (mask-at p masks j h) ∙ mask-size p masks j h in
+          rw meant
+          (polynomials.hiding-exactly draw (f .encodable .sound) (f .encodable .draws) points message (keyOf (m .call .key)) (masksOf p masks) r (size-of-key a) sizes (signing-of a)
+          (keyOf other) (key-size p other (o .size)) (key-ternary other (o .ternary)) (o .same) y)
+
+  -- so it does exactly when it is z - other ⋆ c
+  pub same-iff : (other : List ℕ) → OtherKey l m other → (y : List ℤ) → Same l m other y ↔ (y ≡ maskFor l m other)
+  same-iff other o y =
+      let a = accepted-signing draw p (m .call .key) points (m .call .masks) message (m .call .out) (f .accepted) .1 in
+      Iff·trans (same-iff-gives a other o y) (gives-iff a other o y)

@@ -18,11 +18,11 @@ use Rattle.scheme.specs.Scheme.{Drawer, Draws}
 use Rattle.scheme.proofs.Range as polynomials
 use Rattle.answers.specs.Answer.{setByte}
 use Rattle.entry_sign.specs.Sign.{signRefusalIn, maskAt}
+use Rattle.passign.specs.FirstPassing.{SignUnrefused}
 use Rattle.entry_sign.proofs.Allowed.{sign-allowed}
 use Rattle.entry_sign.proofs.Masks.{mask-small}
 use Rattle.layout.proofs.EncodedKey.{key-ternary}
 use Rattle.passign.proofs.FiveSets.{set-encodable}
-use Rattle.passign.proofs.FirstPassing.{SignUnrefused}
 
 pub range : {draw : Drawer} {p : Params} → Draws draw p → (key points : List ℕ) (masks : List ℤ) (message : List ℕ) (room : ℕ)
     → signRefusalIn p key points masks room ≡ 0 → (i : ℕ) (c : List ℤ) → draw p (evaluations p (maskAt p masks i) points) message ≡ some c

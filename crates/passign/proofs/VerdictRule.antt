@@ -11,21 +11,19 @@ use Rattle.parameters.specs.Sets.{setOf}
 use Rattle.challenge.specs.Draw.{drawChallenge}
 use Rattle.encoding.specs.Encoding.{pointsOf, evaluationsOf}
 use Rattle.scheme.specs.Scheme.{Drawer}
-use Rattle.scheme.proofs.Verdict.{Valid, verdict-true, verdict-false}
+use Rattle.scheme.proofs.Verdict.{verdict-true, verdict-false}
 use Rattle.answers.specs.declared.Verdict.the-variants as answer
 use Rattle.answers.specs.Answer.{setByte}
 use Rattle.entry_check.specs.Check.{checkRefusalIn, signatureRead, checkVerdict, checkAnswerIn, checkAnswer}
+use Rattle.passign.specs.Known.{KnownBoth}
+use Rattle.passign.specs.VerdictRule.{Rule, CheckUnrefused}
 use Rattle.answers.proofs.Apart.{refused-not-yes, refused-not-no, yes-not-no, no-not-yes}
 use Rattle.answers.proofs.Refusal.{passed, chosen, end, equal-iff}
-use Rattle.passign.proofs.Entry.{KnownBoth, check-entry}
+use Rattle.passign.proofs.Entry.{check-entry}
 
 module _ (draw : Drawer) (p : Params) (key message signature : List ℕ) where
-  -- the paper's rule, of what the bytes mean
-  abbrev pub Rule : Type 0
-  Rule = Valid draw p (pointsOf p key) message (evaluationsOf p key) (signatureRead p signature)
-
   -- in any set, with any way to draw
-  pub verdict-yes : (checkAnswerIn draw p key message signature ≡ answer.Yes) ↔ ((checkRefusalIn p key signature ≡ 0) × Rule)
+  pub verdict-yes : (checkAnswerIn draw p key message signature ≡ answer.Yes) ↔ ((checkRefusalIn p key signature ≡ 0) × Rule draw p key message signature)
   unfolding checkAnswerIn checkVerdict
   verdict-yes =
       let rule = verdict-true draw p (pointsOf p key) message (evaluationsOf p key) (signatureRead p signature) in
@@ -34,7 +32,7 @@ module _ (draw : Drawer) (p : Params) (key message signature : List ℕ) where
       (chosen (checkVerdict draw p key message signature) no-not-yes end))
       (Iff·and equal-iff (λ h. rule .0 (h .0), λ v. (rule .1 v, tt)))
 
-  pub verdict-no : (checkAnswerIn draw p key message signature ≡ answer.No) ↔ ((checkRefusalIn p key signature ≡ 0) × (¬ Rule))
+  pub verdict-no : (checkAnswerIn draw p key message signature ≡ answer.No) ↔ ((checkRefusalIn p key signature ≡ 0) × (¬ Rule draw p key message signature))
   unfolding checkAnswerIn checkVerdict
   verdict-no =
       let rule = verdict-false draw p (pointsOf p key) message (evaluationsOf p key) (signatureRead p signature) in
@@ -48,20 +46,15 @@ module _ (key message signature : List ℕ) where
   abbrev in-set : Params
   in-set = setOf (setByte key)
 
-  -- nothing refuses: the set and the set's own tests
-  pub record CheckUnrefused : Type 0 where
-    pub known : KnownBoth key message signature
-    pub allowed : checkRefusalIn in-set key signature ≡ 0
-
-  gathered : {P : Type 0} → (KnownBoth key message signature × ((checkRefusalIn in-set key signature ≡ 0) × P)) ↔ (CheckUnrefused × P)
+  gathered : {P : Type 0} → (KnownBoth key message signature × ((checkRefusalIn in-set key signature ≡ 0) × P)) ↔ (CheckUnrefused key message signature × P)
   gathered = (λ h. (record { known = h .0; allowed = h .1 .0 }, h .1 .1), λ h. (h .0 .known, (h .0 .allowed, h .1)))
 
-  pub entry-verdict-yes : (checkAnswer key message signature ≡ answer.Yes) ↔ (CheckUnrefused × Rule drawChallenge in-set key message signature)
+  pub entry-verdict-yes : (checkAnswer key message signature ≡ answer.Yes) ↔ (CheckUnrefused key message signature × Rule drawChallenge in-set key message signature)
   entry-verdict-yes =
       Iff·trans (check-entry refused-not-yes refused-not-yes key message signature)
       (Iff·trans (Iff·and Iff·rfl (verdict-yes drawChallenge in-set key message signature)) gathered)
 
-  pub entry-verdict-no : (checkAnswer key message signature ≡ answer.No) ↔ (CheckUnrefused × (¬ Rule drawChallenge in-set key message signature))
+  pub entry-verdict-no : (checkAnswer key message signature ≡ answer.No) ↔ (CheckUnrefused key message signature × (¬ Rule drawChallenge in-set key message signature))
   entry-verdict-no =
       Iff·trans (check-entry refused-not-no refused-not-no key message signature)
       (Iff·trans (Iff·and Iff·rfl (verdict-no drawChallenge in-set key message signature)) gathered)

@@ -1,9 +1,11 @@
--- Demand 3 on bytes: another key, what it is for a mask to do what a signing did, and a list of signings.
--- Over the definitions that the contracts of `sign` and `check` cite, for any parameter set and any way to draw.
+-- Demand 3 (document 01, "Hiding, word by word"): another key, what it is for a mask to do what a signing did, and what it is for a list of signings to be
+-- hidden. It is said once, of any library of the scheme: of the entries `sign` and `check`, and of the same definitions with any numbering of parameter sets
+-- and any way to draw.
 -- Assumes nothing.
 use mathlib.Core.Path.{_≡_}
 use mathlib.Core.Bool.{true}
-use mathlib.Core.List.{List, [], _∷_}
+use mathlib.Core.List.{List, [], _∷_, zipWith}
+use mathlib.Core.Logic.{_↔_}
 use mathlib.Core.Option.{some}
 use Prim.Native.Nat.{ℕ}
 use lib.Dec.{T}
@@ -17,7 +19,10 @@ use Rattle.polynomial.specs.Evaluation.{evaluations}
 use Rattle.challenge.specs.Draw.{drawChallenge}
 use Rattle.encoding.specs.Encoding.{secretKeySize, isKey, keyOf, publicKey}
 use Rattle.scheme.specs.Scheme.{Drawer, Draws, Signature}
+use Rattle.scheme.specs.Hiding.{ExactlyOne}
+use Rattle.answers.specs.declared.Signing.{Signing}
 use Rattle.answers.specs.declared.Signing.the-variants as signing
+use Rattle.answers.specs.declared.Verdict.{Verdict}
 use Rattle.answers.specs.declared.Verdict.the-variants as verdict
 use Rattle.answers.specs.Answer.{setByte}
 use Rattle.entry_sign.specs.Sign.{maskAt, signAnswerIn, signWrittenIn, signAnswer, signWritten}
@@ -31,7 +36,9 @@ pub record Encodable (draw : Drawer) (p : Params) : Type 0 where
   pub draws : Draws draw p
   pub exact : (w m : List ℕ) (c : List ℤ) → draw p w m ≡ some c → weight c ≡ p .b
 
--- a signing: encoded key, points, masks, message, and the buffer lent
+-- ---- a library of the scheme
+
+-- a call of its signing: encoded key, points, masks, message, and the buffer lent
 pub record Call : Type 0 where
   pub key : List ℕ
   pub points : List ℕ
@@ -39,82 +46,108 @@ pub record Call : Type 0 where
   pub message : List ℕ
   pub out : List ℕ
 
-module _ (draw : Drawer) (p : Params) where
-  -- the signing is accepted, by mask number i
-  pub record Accepted (call : Call) (i : ℕ) : Type 0 where
-    pub answer : signAnswerIn draw p (call .key) (call .points) (call .masks) (call .message) (call .out) ≡ signing.Signed i
+-- the call with another key, and the mask y offered alone
+abbrev pub offeredAlone : Call → List ℕ → List ℤ → Call
+offeredAlone call other y = record { key = other; points = call .points; masks = y; message = call .message; out = call .out }
 
-  -- the signature's bytes, its commitment (that of the mask that signed), and what the bytes mean
-  abbrev pub bytesOf : Call → List ℕ
-  bytesOf call = signWrittenIn draw p (call .key) (call .points) (call .masks) (call .message) (call .out)
+-- the parameter set of each set byte, the way to draw, what signing answers and what the buffer lent holds after it, and what the check answers to a
+-- public key, a message and a signature
+pub record Library : Type 0 where
+  pub set : ℕ → Params
+  pub draw : Drawer
+  pub signs : Call → Signing
+  pub writes : Call → List ℕ
+  pub checks : List ℕ → List ℕ → List ℕ → Verdict
 
-  abbrev pub commitmentOf : Call → ℕ → List ℕ
-  commitmentOf call i = evaluations p (maskAt p (call .masks) i) (call .points)
+-- signing in one parameter set
+abbrev pub signsIn : Drawer → Params → Call → Signing
+signsIn draw p call = signAnswerIn draw p (call .key) (call .points) (call .masks) (call .message) (call .out)
 
-  abbrev pub signatureIn : Call → Signature
-  signatureIn call = signatureRead p (bytesOf call)
+abbrev pub writesIn : Drawer → Params → Call → List ℕ
+writesIn draw p call = signWrittenIn draw p (call .key) (call .points) (call .masks) (call .message) (call .out)
 
-  -- another encoded key of the same set: ternary, with the same evaluations at the points
-  pub record OtherKey (call : Call) (other : List ℕ) : Type 0 where
-    pub size : length other ≡ secretKeySize p
-    pub set : setByte other ≡ setByte (call .key)
+-- any numbering of sets and any way to draw
+abbrev pub anyLibrary : (ℕ → Params) → Drawer → Library
+anyLibrary set draw =
+    record {
+      set = set;
+      draw = draw;
+      signs = λ (call : Call). signsIn draw (set (setByte (call .key))) call;
+      writes = λ (call : Call). writesIn draw (set (setByte (call .key))) call;
+      checks = λ (key message signature : List ℕ). checkAnswerIn draw (set (setByte key)) key message signature;
+    }
+
+-- the entries `sign` and `check`
+abbrev pub entries : Library
+entries =
+    record {
+      set = setOf;
+      draw = drawChallenge;
+      signs = λ (call : Call). signAnswer (call .key) (call .points) (call .masks) (call .message) (call .out);
+      writes = λ (call : Call). signWritten (call .key) (call .points) (call .masks) (call .message) (call .out);
+      checks = checkAnswer;
+    }
+
+-- ---- one signing
+
+-- a signing that was made: its call, the number of the mask that signed, and the bytes of the signature
+pub record Made : Type 0 where
+  pub call : Call
+  pub mask : ℕ
+  pub bytes : List ℕ
+
+module _ (l : Library) (m : Made) where
+  -- the set of its key's first byte
+  abbrev pub paramsOf : Params
+  paramsOf = l .set (setByte (m .call .key))
+
+  -- the library accepts it: it answers with the number of the mask and not with a refusal, and it writes the bytes
+  pub record Accepted : Type 0 where
+    pub answer : l .signs (m .call) ≡ signing.Signed (m .mask)
+    pub bytes : l .writes (m .call) ≡ m .bytes
+
+  -- its commitment: that of the mask that signed
+  abbrev pub commitmentOf : List ℕ
+  commitmentOf = evaluations paramsOf (maskAt paramsOf (m .call .masks) (m .mask)) (m .call .points)
+
+  -- the challenge and the point z that its bytes mean
+  abbrev pub signatureIn : Signature
+  signatureIn = signatureRead paramsOf (m .bytes)
+
+  -- the public evaluations of an encoded key at its points
+  abbrev pub publicEvaluations : List ℕ → List ℕ
+  publicEvaluations key = evaluations paramsOf (keyOf key) (m .call .points)
+
+  -- another ternary key of the same set, in its encoding: its public evaluations agree with those of the key that signed at each of the points
+  pub record OtherKey (other : List ℕ) : Type 0 where
+    pub size : length other ≡ secretKeySize paramsOf
+    pub set : setByte other ≡ setByte (m .call .key)
     pub ternary : isKey other ≡ true
-    pub same : evaluations p (keyOf other) (call .points) ≡ evaluations p (keyOf (call .key)) (call .points)
+    pub same : publicEvaluations other ≡ publicEvaluations (m .call .key)
 
-  -- the mask y within k, offered alone with the other key, gives the same commitment, challenge and signature bytes
-  pub record Same (call : Call) (i : ℕ) (other : List ℕ) (y : List ℤ) : Type 0 where
-    pub size : length y ≡ p .n
-    pub small : T (within (p .k) y)
-    pub commitment : evaluations p y (call .points) ≡ commitmentOf call i
-    pub challenge : draw p (evaluations p y (call .points)) (call .message) ≡ some (signatureIn call .c)
-    pub answer : signAnswerIn draw p other (call .points) y (call .message) (call .out) ≡ signing.Signed 0
-    pub bytes : signWrittenIn draw p other (call .points) y (call .message) (call .out) ≡ bytesOf call
+  -- the mask y within k, offered alone with the other key, gives the same commitment, the same challenge and the same signature bytes
+  pub record Same (other : List ℕ) (y : List ℤ) : Type 0 where
+    pub size : length y ≡ paramsOf .n
+    pub small : T (within (paramsOf .k) y)
+    pub commitment : evaluations paramsOf y (m .call .points) ≡ commitmentOf
+    pub challenge : l .draw paramsOf (evaluations paramsOf y (m .call .points)) (m .call .message) ≡ some (signatureIn .c)
+    pub answer : l .signs (offeredAlone (m .call) other y) ≡ signing.Signed 0
+    pub bytes : l .writes (offeredAlone (m .call) other y) ≡ m .bytes
 
-  -- the check says yes to the signature, given the other key's public evaluations and the same points and message
-  pub record SaysYes (call : Call) (other : List ℕ) : Type 0 where
-    pub answer : checkAnswerIn draw p (publicKey (setByte other) (call .points) (evaluations p (keyOf other) (call .points))) (call .message) (bytesOf call) ≡ verdict.Yes
+  -- the check, given the signature, the shared public evaluations and the same points and message, says yes
+  pub record SaysYes (other : List ℕ) : Type 0 where
+    pub answer : l .checks (publicKey (setByte other) (m .call .points) (publicEvaluations other)) (m .call .message) (m .bytes) ≡ verdict.Yes
 
--- the mask that does it: z minus the product of the other key and the challenge
-abbrev pub maskFor : Signature → List ℕ → List ℤ
-maskFor s other = sub (s .z) (star (keyOf other) (s .c))
-
--- ---- the entries `sign` and `check`, in the set of the key's first byte
-
-abbrev pub setIn : Call → Params
-setIn call = setOf (setByte (call .key))
-
--- the buffer after `sign`
-abbrev pub writtenBy : Call → List ℕ
-writtenBy call = signWritten (call .key) (call .points) (call .masks) (call .message) (call .out)
-
--- the mask y within k, offered alone to `sign` with the other key, gives the same commitment, challenge and signature bytes
-pub record EntrySame (call : Call) (i : ℕ) (other : List ℕ) (y : List ℤ) : Type 0 where
-  pub size : length y ≡ setIn call .n
-  pub small : T (within (setIn call .k) y)
-  pub commitment : evaluations (setIn call) y (call .points) ≡ commitmentOf drawChallenge (setIn call) call i
-  pub challenge : drawChallenge (setIn call) (evaluations (setIn call) y (call .points)) (call .message) ≡ some (signatureRead (setIn call) (writtenBy call) .c)
-  pub answer : signAnswer other (call .points) y (call .message) (call .out) ≡ signing.Signed 0
-  pub bytes : signWritten other (call .points) y (call .message) (call .out) ≡ writtenBy call
-
--- `check` says yes to the signature, given the other key's public evaluations and the same points and message
-pub record EntrySaysYes (call : Call) (other : List ℕ) : Type 0 where
-  pub answer : checkAnswer (publicKey (setByte other) (call .points) (evaluations (setIn call) (keyOf other) (call .points))) (call .message) (writtenBy call) ≡ verdict.Yes
+  -- the mask that does it: the signature's z minus the product ⋆ of the other key and the signature's challenge
+  abbrev pub maskFor : List ℕ → List ℤ
+  maskFor other = sub (signatureIn .z) (star (keyOf other) (signatureIn .c))
 
 -- ---- lists of signings
 
--- an accepted signing in a set of its own, by mask number i
-pub record AcceptedCall (draw : Drawer) : Type 0 where
-  pub p : Params
-  pub encodable : Encodable draw p
-  pub call : Call
-  pub i : ℕ
-  pub accepted : Accepted draw p call i
-
--- an accepted call of the entry, by mask number i
-pub record AcceptedEntry : Type 0 where
-  pub call : Call
-  pub i : ℕ
-  pub accepted : signAnswer (call .key) (call .points) (call .masks) (call .message) (call .out) ≡ signing.Signed i
+-- P holds at each place
+abbrev pub Every : {A : Type 0} → (A → Type 0) → List A → Type 0
+Every P [] = Unit {0}
+Every P (a ∷ l) = P a × Every P l
 
 -- two lists, or three, are equally long and R holds at each place
 abbrev pub Each : {A B : Type 0} → (A → B → Type 0) → List A → List B → Type 0
@@ -130,3 +163,16 @@ Each₃ R [] (b ∷ bs) cs = ⊥
 Each₃ R (a ∷ l) [] cs = ⊥
 Each₃ R (a ∷ l) (b ∷ bs) [] = ⊥
 Each₃ R (a ∷ l) (b ∷ bs) (c ∷ cs) = R a b c × Each₃ R l bs cs
+
+-- demand 3 of a list of signings: for every list of other keys, one for each, exactly one list of masks, one for each, does at every place what the
+-- signing there did, and the check says yes at every place
+abbrev pub Hides : Library → List Made → Type 0
+Hides l ms =
+    (others : List (List ℕ)) → Each (OtherKey l) ms others
+    → ExactlyOne (λ (ys : List (List ℤ)). Each₃ (Same l) ms others ys) × Each (SaysYes l) ms others
+
+-- and the masks that do so are z minus the product ⋆ of the other key and the challenge at every place, and no others
+abbrev pub HidesExactly : Library → List Made → Type 0
+HidesExactly l ms =
+    (others : List (List ℕ)) → Each (OtherKey l) ms others
+    → (ys : List (List ℤ)) → Each₃ (Same l) ms others ys ↔ (ys ≡ zipWith (maskFor l) ms others)

@@ -3,30 +3,23 @@
 use mathlib.Core.Path.{_≡_, refl, sym, ap, _∙_, subst}
 use mathlib.Core.List.{List, [], _∷_}
 use mathlib.Core.Logic.{_↔_, ⊎-elim}
-use mathlib.Core.Option.{Option, none, some, Option·none-ne-some, Option·some-injective}
-use Prim.Native.Nat.{ℕ, zero, suc, _+_, _<_, zero-le, suc-le-suc}
+use mathlib.Core.Option.{none, some, Option·none-ne-some, Option·some-injective}
+use Prim.Native.Nat.{ℕ, zero, suc, _<_, zero-le, suc-le-suc}
 use native.Mathlib.Nat.{le-of-suc-le-suc, not-suc-le-zero}
 use native.Mathlib.Omega.{arith}
 use lib.IntN.{ℤ}
 use lib.ListN.{length, getD, take}
 use Rattle.parameters.specs.declared.Params.{Params}
-use Rattle.polynomial.specs.Evaluation.{evaluations}
-use Rattle.scheme.specs.Scheme.{Drawer, Signature, Signed, attempt, signing}
+use Rattle.scheme.specs.Scheme.{Drawer, Signed, attempt, signing}
+use Rattle.scheme.specs.FirstPassing.{FirstPassing, failures}
 use Rattle.scheme.proofs.Search.{Fail, fail-tail, first-or-none, signing-found, signing-none}
 
 module _ (draw : Drawer) (p : Params) (points message : List ℕ) (f : List ℤ) where
-  -- r is by the first mask that passes: mask number passedOver is offered, gives r's signature and r's commitment, and every mask before it fails
-  pub record FirstPassing (ys : List (List ℤ)) (r : Signed) : Type 0 where
-    pub offered : r .passedOver < length ys
-    pub passes : attempt draw p points message f (getD ys (r .passedOver) []) ≡ some (r .signature)
-    pub commits : evaluations p (getD ys (r .passedOver) []) points ≡ r .commitment
-    pub earlier : (i : ℕ) → i < r .passedOver → attempt draw p points message f (getD ys i []) ≡ none
-
   -- signing accepts with r exactly when r is by the first mask that passes
-  pub first-passing : (ys : List (List ℤ)) (r : Signed) → (signing draw p points message 0 f ys ≡ some r) ↔ FirstPassing ys r
+  pub first-passing : (ys : List (List ℤ)) (r : Signed) → (signing draw p points message 0 f ys ≡ some r) ↔ FirstPassing draw p points message f ys r
   first-passing ys r = (
     λ e. ⊎-elim
-        (λ w. subst (FirstPassing ys) (Option·some-injective _ r (sym (signing-found draw p points message f ys w) ∙ e))
+        (λ w. subst (FirstPassing draw p points message f ys) (Option·some-injective _ r (sym (signing-found draw p points message f ys w) ∙ e))
         (record { offered = w .offered; passes = w .passes; commits = refl; earlier = w .earlier }))
         (λ a. absurd (Option·none-ne-some r (sym (signing-none draw p points message f 0 ys a) ∙ e)))
         (first-or-none draw p points message f ys),
@@ -45,23 +38,14 @@ module _ (draw : Drawer) (p : Params) (points message : List ℕ) (f : List ℤ)
     signing-none draw p points message f 0 ys,
   )
 
-  -- the count of the masks that fail
-  abbrev pub failure : Option Signature → ℕ
-  failure none = 1
-  failure (some s) = 0
-
-  abbrev pub failures : List (List ℤ) → ℕ
-  failures [] = 0
-  failures (y ∷ ys) = failure (attempt draw p points message f y) + failures ys
-
-  failures-all : (n : ℕ) (ys : List (List ℤ)) → n < length ys → Fail draw p points message f n ys → failures (take n ys) ≡ n
+  failures-all : (n : ℕ) (ys : List (List ℤ)) → n < length ys → Fail draw p points message f n ys → failures draw p points message f (take n ys) ≡ n
   failures-all zero ys h a = refl
   failures-all (suc n) [] h a = absurd (not-suc-le-zero h)
   failures-all (suc n) (y ∷ ys) h a = rw (a 0 (suc-le-suc zero-le), failures-all n ys (le-of-suc-le-suc h) (fail-tail draw p points message f y ys n a)) (omega arith)
 
   -- the number passed over is the count of earlier masks that fail
   pub passed-over : (ys : List (List ℤ)) (r : Signed) → signing draw p points message 0 f ys ≡ some r
-      → failures (take (r .passedOver) ys) ≡ r .passedOver
+      → failures draw p points message f (take (r .passedOver) ys) ≡ r .passedOver
   passed-over ys r e =
       let w = first-passing ys r .0 e in
       failures-all (r .passedOver) ys (w .offered) (w .earlier)

@@ -1,7 +1,7 @@
 -- Hiding: whatever signing accepts, every ternary key with the same public evaluations would have signed alike, by exactly one mask within k:
 -- the signature's z minus the product of that key and the signature's challenge. And the check says yes under that key too.
 -- Assumes nothing.
-use mathlib.Core.Path.{_≡_, refl, sym, ap, _∙_, subst}
+use mathlib.Core.Path.{_≡_, sym, ap, _∙_, subst}
 use mathlib.Core.Bool.{true}
 use mathlib.Core.List.{List, []}
 use mathlib.Core.Logic.{_↔_}
@@ -19,6 +19,7 @@ use Rattle.scheme.specs.Hiding.{ExactlyOne, Gives}
 use Rattle.scheme.proofs.Attempt.{attempt-iff}
 use Rattle.scheme.proofs.FirstPassing.{first-passing}
 use Rattle.scheme.proofs.Correctness.{correctness}
+use Rattle.scheme.proofs.ExactlyOne.{exactly-one}
 use Rattle.scheme.proofs.OtherMask.{other-only, other-gives}
 
 module _ (draw : Drawer) {p : Params} (sound : Sound p) (draws : Draws draw p) (points message : List ℕ)
@@ -41,7 +42,7 @@ module _ (draw : Drawer) {p : Params} (sound : Sound p) (draws : Draws draw p) (
 
   -- so exactly one mask does
   unfoldable pub hiding : ExactlyOne (Gives draw p points message h (r .commitment) (r .signature))
-  hiding = record { it = sub (r .signature .z) (star h (r .signature .c)); does = hiding-exactly _ .1 refl; only = λ y. hiding-exactly y .0 }
+  hiding = exactly-one (sub (r .signature .z) (star h (r .signature .c))) hiding-exactly
 
   -- and the check says yes to the signature under the public evaluations of h
   pub hiding-verdict : verdict draw p points message (evaluations p h points) (r .signature) ≡ true

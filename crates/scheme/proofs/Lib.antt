@@ -9,3 +9,4 @@ pub mod Attempt
 pub mod Commitment
 pub mod Search
 pub mod OtherMask
+pub mod ExactlyOne

@@ -4,25 +4,17 @@ use mathlib.Core.Path.{_≡_, sym, _∙_}
 use mathlib.Core.Bool.{true, false, _&&_, true≢false}
 use mathlib.Core.List.{List}
 use mathlib.Core.Logic.{_↔_}
-use mathlib.Core.Option.{some}
-use Prim.Native.Nat.{ℕ, _-_, _≤_, _<_}
-use lib.IntN.{natAbs}
-use lib.ListN.{length}
+use Prim.Native.Nat.{ℕ, _-_}
 use Rattle.algebra.proofs.Test.{and-left, and-right, and-intro, holds-true, true-holds, by-test}
 use Rattle.algebra.specs.Integer.{within}
 use Rattle.parameters.specs.declared.Params.{Params}
-use Rattle.polynomial.specs.Polynomial.{coefficient}
 use Rattle.scheme.specs.Scheme.{Drawer, Signature, recovered, isDrawn, verdict}
+use Rattle.scheme.specs.Verdict.{Valid}
 use Rattle.scheme.proofs.Within.{within-iff}
 use Rattle.scheme.proofs.Equal.{isDrawn-iff}
 
 module _ (draw : Drawer) (p : Params) (points message vs : List ℕ) (s : Signature) where
-  -- s is a signature of the message under the public evaluations vs
-  pub record Valid : Type 0 where
-    pub range : (i : ℕ) → i < length (s .z) → natAbs (coefficient (s .z) i) ≤ p .k - p .b
-    pub challenge : draw p (recovered p s points vs) message ≡ some (s .c)
-
-  pub verdict-true : (verdict draw p points message vs s ≡ true) ↔ Valid
+  pub verdict-true : (verdict draw p points message vs s ≡ true) ↔ Valid draw p points message vs s
   unfolding verdict
   verdict-true =
       let t = within (p .k - p .b) (s .z) in
@@ -34,7 +26,7 @@ module _ (draw : Drawer) (p : Params) (points message vs : List ℕ) (s : Signat
         λ v. holds-true (t && u) (and-intro t u (within-iff (p .k - p .b) (s .z) .1 (v .range)) (isDrawn-iff (draw p (recovered p s points vs) message) (s .c) .1 (v .challenge))),
       )
 
-  pub verdict-false : (verdict draw p points message vs s ≡ false) ↔ ¬ Valid
+  pub verdict-false : (verdict draw p points message vs s ≡ false) ↔ ¬ Valid draw p points message vs s
   verdict-false = (
     λ e v. true≢false (sym (verdict-true .1 v) ∙ e),
     λ n. by-test (verdict draw p points message vs s) (λ e. absurd (n (verdict-true .0 e))) (λ e. e),

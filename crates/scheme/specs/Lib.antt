@@ -1,2 +1,4 @@
 pub mod Scheme
 pub mod Hiding
+pub mod FirstPassing
+pub mod Verdict

@@ -1,5 +1,5 @@
 -- Any plays of the code, from a session just opened, are plays by the rules with the same row buffers: the commands played are the same, and the session
--- that the last play returned means the session after them. So what session_rules proves of `events` and `after` (`every-file-ends`, `held-is-told`,
+-- that the last play returned means the session after them. So what session_rules proves of `events` and `after` (`every-file-ends`, `held-is-read`,
 -- `ordinals-count`) holds of the code's plays and sessions.
 -- Assumes nothing.
 use mathlib.Core.Path.{_≡_, refl, ap, ap₂, _∙_}

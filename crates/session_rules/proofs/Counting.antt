@@ -34,8 +34,8 @@ module _ {file : List ℕ} {n : ℕ} {s : Session} (c : Counted file n s) where
   counted-play : Reachable s → (buffer : List ℕ) → play s file buffer .session .ended ≡ false
       → Counted file (n + length (eventOf s file (play s file buffer))) (play s file buffer .session)
   counted-play r buffer =
-      let (t, (kept, w)) = reached r in
-      let x = reached-step t kept s w file in
+      let (t, (av, w)) = reached r in
+      let x = reached-step t av s w file in
       play-by s file buffer (λ (o : Outcome). o .session .ended ≡ false → Counted file (n + length (eventOf s file o)) (o .session)) (λ h e. unmoved) (λ h e. unmoved)
       (λ h g e.
       let short : length file ≤ 65536 = by-test (s .started) (c .sized) (λ f. x .begins f e) in
@@ -63,6 +63,6 @@ counted-opened file = record { rows = refl; moved = omega arith; inside = omega 
 pub next-ordinal : {file : List ℕ} {n : ℕ} {s : Session} → Reachable s → Counted file n s
     → (step s file .ordinal ≡ n + 1) ⊎ BeforeFirst s (step s file .ordinal) (step s file .number)
 next-ordinal {file} {n} {s} r c =
-    let (t, (kept, w)) = reached r in
+    let (t, (av, w)) = reached r in
     let is : nextOrdinal (s .rows) ≡ n + 1 = by-test (s .started) (λ e. next c (c .sized e)) (λ e. omega (arith, c .rows, c .moved, w .fresh e)) in
-    ⊎-elim (λ e. inl (e ∙ is)) inr (reached-step t kept s w file .numbered)
+    ⊎-elim (λ e. inl (e ∙ is)) inr (reached-step t av s w file .numbered)

@@ -17,9 +17,9 @@ use Rattle.session_rules.proofs.Reaching.{Reachable, once-more, reached
 pub moves-on : {s : Session} → Reachable s → (file buffer : List ℕ) → length buffer ≡ 16384 → play s file buffer .session .ended ≡ false
     → (s .place < play s file buffer .session .place) × (play s file buffer .session .place ≤ length file)
 moves-on {s} r file buffer right =
-    let (t, (kept, w)) = reached r in
+    let (t, (av, w)) = reached r in
     play-by s file buffer (λ (o : Outcome). o .session .ended ≡ false → (s .place < o .session .place) × (o .session .place ≤ length file))
-    (λ h e. absurd (h right)) (λ h e. absurd (true≢false (sym h ∙ e))) (λ h g e. reached-step t kept s w file .moves e)
+    (λ h e. absurd (h right)) (λ h e. absurd (true≢false (sym h ∙ e))) (λ h g e. reached-step t av s w file .moves e)
 
 -- the end stays
 pub stays-ended : (s : Session) (file : List ℕ) (buffers : List (List ℕ)) → s .ended ≡ true → after s file buffers .ended ≡ true

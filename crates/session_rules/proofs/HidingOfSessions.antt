@@ -3,45 +3,32 @@
 -- following: each mask, offered alone to the library's signing with its key, gives the same commitment, the same challenge and the signature bytes that
 -- the row prints. The library's check says yes to each. What each 06 signs with is read from the commands played before it.
 -- Assumes nothing.
-use mathlib.Core.Path.{_≡_}
-use mathlib.Core.Bool.{not}
-use mathlib.Core.List.{List, [], zipWith}
-use mathlib.Core.Logic.{_↔_}
+use mathlib.Core.List.{List}
 use Prim.Native.Nat.{ℕ}
-use lib.Dec.{T}
-use lib.IntN.{ℤ}
-use Rattle.algebra.specs.All.{all}
-use Rattle.scheme.specs.Hiding.{ExactlyOne}
-use Rattle.passign.specs.Hiding.{Each, Each₃}
-use Rattle.passign.proofs.Hiding.{exactly-one}
+use Rattle.passign.specs.Hiding.{entries, Accepted, Every, Hides, HidesExactly}
+use Rattle.passign.proofs.HidingOfMany as library
 use Rattle.session_rules.specs.Play.{opened}
-use Rattle.session_rules.specs.Plays.{Event, events, untold, Signing06, isSigning, signings, OtherKey, Same, SaysYes}
-use Rattle.session_rules.proofs.Telling.{unkept}
+use Rattle.session_rules.specs.Plays.{events, noMaterial, signings, HidesNone}
+use Rattle.session_rules.specs.HeldIsRead.{noneAvailable}
 use Rattle.session_rules.proofs.Reaching.{reached-opened}
-use Rattle.session_rules.proofs.Signings.{Every, Signs, signs-each, none-signed}
-use Rattle.session_rules.proofs.Calls.{maskFrom, masks-exactly, say-yes, empty}
+use Rattle.session_rules.proofs.Signings.{accepted-each, none-signed}
 
 module _ (file : List ℕ) (buffers : List (List ℕ)) where
-  -- the accepted 06 commands
-  abbrev pub signingsOf : List Signing06
-  signingsOf = signings (events file buffers)
-
-  accepts : Every Signs signingsOf
+  -- each accepted 06 is a signing that the library accepts with what is read, by the mask of that number and with the bytes printed
+  pub signings-accepted : Every (Accepted entries) (signings (events file buffers))
   unfolding signings events
-  accepts = signs-each untold unkept opened reached-opened file buffers
+  signings-accepted = accepted-each noMaterial noneAvailable opened reached-opened file buffers
 
-  module _ (others : List (List ℕ)) (o : Each OtherKey signingsOf others) where
-    pub hiding-of-sessions : ExactlyOne (λ (ys : List (List ℤ)). Each₃ Same signingsOf others ys) × Each SaysYes signingsOf others
-    hiding-of-sessions = (exactly-one (zipWith maskFrom signingsOf others) (masks-exactly signingsOf accepts others o), say-yes signingsOf accepts others o)
+  pub hiding-of-sessions : Hides entries (signings (events file buffers))
+  hiding-of-sessions = library.entry-hiding-of-many (signings (events file buffers)) signings-accepted
 
-    -- the masks are z - other ⋆ c of the signatures printed
-    pub hiding-of-sessions-exactly : (ys : List (List ℤ)) → Each₃ Same signingsOf others ys ↔ (ys ≡ zipWith maskFrom signingsOf others)
-    hiding-of-sessions-exactly = masks-exactly signingsOf accepts others o
+  -- the masks are z - other ⋆ c of the signatures printed
+  pub hiding-of-sessions-exactly : HidesExactly entries (signings (events file buffers))
+  hiding-of-sessions-exactly = library.entry-hiding-of-many-exactly (signings (events file buffers)) signings-accepted
 
--- a list of plays with no accepted 06 has no signing, and so the empty list of masks
-pub no-signing : (file : List ℕ) (buffers : List (List ℕ)) → T (all (λ (e : Event). not (isSigning e)) (events file buffers))
-    → (signingsOf file buffers ≡ []) × ((ys : List (List ℤ)) → Each₃ Same (signingsOf file buffers) [] ys ↔ (ys ≡ []))
-unfolding signings
-no-signing file buffers n =
-    let e = none-signed (events file buffers) untold n in
-    (e, rw e empty)
+  -- a list of plays with no accepted 06 has no signing, and so the empty list of masks
+  pub no-signing : HidesNone (events file buffers)
+  unfolding signings
+  no-signing n =
+      let e = none-signed (events file buffers) noMaterial n in
+      (e, rw e (library.no-signing entries))

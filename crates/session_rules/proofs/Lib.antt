@@ -1,12 +1,13 @@
 pub mod Transcript
 pub mod EveryFileEnds
 pub mod Refusals
-pub mod HeldIsTold
+pub mod HeldIsRead
 pub mod HidingOfSessions
+pub mod MasksInOrder
 pub mod After
 pub mod RightPlays
 pub mod Text
-pub mod Telling
+pub mod Fits
 pub mod Library
 pub mod Signature
 pub mod Playing
@@ -14,7 +15,6 @@ pub mod Stepping
 pub mod Reaching
 pub mod Ending
 pub mod Signings
-pub mod Calls
 pub mod Counting
 pub mod Ordinals
 pub mod RowSize

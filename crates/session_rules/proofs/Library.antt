@@ -35,9 +35,10 @@ use Rattle.entry_sign.specs.Sign.{areMasks, signRefusalIn, signedAnswer, signAn
 use Rattle.entry_check.specs.Check.{checkRefusalIn, checkVerdict, checkAnswerIn, checkAnswer}
 use Rattle.answers.proofs.Apart.{refused-same, refused-not-signed, refused-not-yes, refused-not-no}
 use Rattle.entry_sign.proofs.Allowed.{sign-allowed}
-use Rattle.passign.proofs.Entry.{Known, answer-entry}
+use Rattle.passign.specs.Known.{Known}
+use Rattle.passign.proofs.Entry.{answer-entry}
 use Rattle.session_rules.specs.Commands.{signatureRoom}
-use Rattle.session_rules.proofs.Telling.{isMask, ArePoints, IsKey, AreEvaluations}
+use Rattle.session_rules.proofs.Fits.{isMask, ArePoints, IsKey, AreEvaluations}
 
 -- ---- masks one after the other
 
@@ -50,7 +51,7 @@ module _ (p : Params) where
         (and-right (eqb (length y) (p .n)) (within (p .k) y) m, and-right (isMask p y) (all (isMask p) ys) t),
       )
 
-  pub joined-length : (ys : List (List ℤ)) → T (all (isMask p) ys) → length (joined ys) ≡ length ys * p .n
+  joined-length : (ys : List (List ℤ)) → T (all (isMask p) ys) → length (joined ys) ≡ length ys * p .n
   joined-length [] t = sym (zero-mul (p .n))
   joined-length (y ∷ ys) t =
       let (size, (small, rest)) = first-mask y ys t in

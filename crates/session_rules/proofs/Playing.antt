@@ -1,5 +1,5 @@
--- One command, played with what is held and told: what is held after it is what is told with it, what an accepted 06 signs with, what a refusal leaves,
--- and how much it adds to its row.
+-- One command, played with what is held, which is what is read: so it is after the command. What an accepted 06 signs with, what a refusal leaves, and
+-- how much the command adds to its row.
 -- Assumes nothing.
 use mathlib.Core.Path.{_≡_, refl, sym, ap, _∙_}
 use mathlib.Core.Bool.{Bool, true, false, not, _&&_, _||_, true≢false}
@@ -30,13 +30,15 @@ use Rattle.answers.specs.declared.Verdict.{Verdict}
 use Rattle.answers.specs.declared.Verdict.the-variants as verdict
 use Rattle.entry_sign.specs.Sign.{signAnswer, signWritten}
 use Rattle.entry_check.specs.Check.{checkAnswer}
+use Rattle.passign.specs.Hiding.{entries}
 use Rattle.passign.proofs.Encoded.{public-key-read}
 use Rattle.session_rules.specs.Held.{Chosen, Held, withMasks}
 use Rattle.session_rules.specs.Commands.{Payload, nothing, signed, Done, accepted, refused, needing, chooseSet, keyEvaluations, maskOf, signatureRoom, loadPoints, loadKey, loadMask, loadMessage, afterSigning, sign, afterCheck, check, loadEvaluations, needsSet, operandSizeIn, operandSize, commandIn, command}
 use Rattle.session_rules.specs.Rows.{decimal, hex, spaced, payloadText}
 use Rattle.session_rules.specs.Play.{lacksSet}
-use Rattle.session_rules.specs.Plays.{Event, Told, withMasksTold, passedOver, keyTold, paramsTold, firstPassing, tellAccepted, tell}
-use Rattle.session_rules.proofs.Telling.{Holding, absent, holds, Kept, keepAccepted, keep, chosenTold, Tells, isMask, Fits}
+use Rattle.session_rules.specs.Plays.{Event, Material, passedOver, paramsIn, withMasksIn, callWith, firstPassing, withAccepted, withCommand}
+use Rattle.session_rules.specs.HeldIsRead.{Available, availableWithAccepted, availableWith, chosenIn, Holding, absent, holds, HeldIsRead}
+use Rattle.session_rules.proofs.Fits.{isMask, Fits}
 use Rattle.session_rules.proofs.Library.{sign-refused, check-refused}
 use Rattle.session_rules.proofs.Signature.{signature-size}
 use Rattle.session_rules.proofs.Text.{length-decimal, length-hex, length-numbers}
@@ -45,30 +47,29 @@ use Rattle.session_rules.proofs.Text.{length-decimal, length-hex, lengt
 abbrev pub isEnding : ℕ → Bool
 isEnding n = eqb n 1 || (eqb n 3 || (leb 13 n && leb n 16))
 
--- a command that was played; what is told does not look at its buffer
+-- a command that was played; what is read from it does not look at its buffer
 abbrev pub played : ℕ → List ℕ → ℕ → Event
 played b op n = record { byte = b; operand = op; number = n; buffer = [] }
 
--- the library's signing with what is told, its answer and its bytes
-module _ (t : Told) where
-  abbrev pub answerTold : Signing
-  answerTold = signAnswer (keyTold t) (t .points) (joined (t .masks)) (t .message) (signatureRoom (paramsTold t))
+-- the library's signing with the material, its answer and its bytes
+module _ (t : Material) where
+  abbrev pub answerWith : Signing
+  answerWith = entries .signs (callWith t)
 
-  abbrev pub bytesTold : List ℕ
-  bytesTold = signWritten (keyTold t) (t .points) (joined (t .masks)) (t .message) (signatureRoom (paramsTold t))
+  abbrev pub bytesWith : List ℕ
+  bytesWith = entries .writes (callWith t)
 
-  -- it accepts, by mask number i, and the row has its bytes
-  pub record SignedTold (x : Payload) : Type 0 where
-    pub i : ℕ
-    pub answer : answerTold ≡ signing.Signed i
-    pub payload : x ≡ signed i bytesTold
+  -- it accepts, by the first mask that passes, and the row has its bytes
+  pub record SignedWith (x : Payload) : Type 0 where
+    pub answer : answerWith ≡ signing.Signed (firstPassing t)
+    pub payload : x ≡ signed (firstPassing t) bytesWith
 
--- what a command does: what is held after it is told and as tested, an accepted 06 signs with what is told, a refusal leaves what is held (save that 9
+-- what a command does: what is held after it is what is read and as tested, an accepted 06 signs with the material, a refusal leaves what is held (save that 9
 -- drops all masks) and has its number alone, the session goes on, and the row has room
-pub record Does (t : Told) (kept : Kept) (h : Held) (b : ℕ) (op : List ℕ) (d : Done) : Type 0 where
-  pub tells : Tells (tell t (played b op (d .number))) (keep t kept (played b op (d .number))) (d .held)
-  pub fits : Fits (paramsTold (tell t (played b op (d .number)))) (keep t kept (played b op (d .number))) (d .held)
-  pub signs : b ≡ 6 → d .number ≡ 0 → SignedTold t (d .payload)
+pub record Does (t : Material) (av : Available) (h : Held) (b : ℕ) (op : List ℕ) (d : Done) : Type 0 where
+  pub reads : HeldIsRead (withCommand t (played b op (d .number))) (availableWith t av (played b op (d .number))) (d .held)
+  pub fits : Fits (paramsIn (withCommand t (played b op (d .number)))) (availableWith t av (played b op (d .number))) (d .held)
+  pub signs : b ≡ 6 → d .number ≡ 0 → SignedWith t (d .payload)
   pub leaves : (d .number ≡ 0 → ⊥) → d .held ≡ pick (eqb (d .number) 9) (withMasks [] h) h
   pub alone : (d .number ≡ 0 → ⊥) → d .payload ≡ nothing
   pub goes : isEnding (d .number) ≡ false
@@ -77,8 +78,8 @@ pub record Does (t : Told) (kept : Kept) (h : Held) (b : ℕ) (op : List ℕ) (d
 
 -- ---- something needed is held
 
-needing-by : {A : Type 0} (P : Done → Type 0) {Q R : A → Type 0} {told : Bool} {o : Option A} {h : Held} {go : A → Done}
-    → Holding Q told o → Holding R told o → P (refused 10 h) → ((a : A) → Q a → R a → P (go a)) → P (needing o h go)
+needing-by : {A : Type 0} (P : Done → Type 0) {Q R : A → Type 0} {given : Bool} {o : Option A} {h : Held} {go : A → Done}
+    → Holding Q given o → Holding R given o → P (refused 10 h) → ((a : A) → Q a → R a → P (go a)) → P (needing o h go)
 needing-by P absent absent f g = f
 needing-by P (holds {a = a} q) (holds r) f g = g a q r
 
@@ -91,12 +92,12 @@ length-evaluations : (p : Params) (points key : List ℕ) → length (keyEvaluat
 unfolding evaluations
 length-evaluations p points key = length-map points (evaluation p (map keyCoefficient key))
 
--- ---- what is held and told with other masks
+-- ---- what is held and read with other masks
 
-tells-masks : {t : Told} {kept : Kept} {h : Held} → Tells t kept h → {ys zs : List (List ℤ)} → ys ≡ zs → Tells (withMasksTold t zs) kept (withMasks ys h)
-tells-masks w e = record { set = w .set; points = w .points; key = w .key; evaluations = w .evaluations; message = w .message; masks = e }
+reads-masks : {t : Material} {av : Available} {h : Held} → HeldIsRead t av h → {ys zs : List (List ℤ)} → ys ≡ zs → HeldIsRead (withMasksIn t zs) av (withMasks ys h)
+reads-masks w e = record { set = w .set; points = w .points; key = w .key; evaluations = w .evaluations; message = w .message; masks = e }
 
-fits-masks : {p : Params} {kept : Kept} {h : Held} → Fits p kept h → (ys : List (List ℤ)) → T (all (isMask p) ys) → length ys ≤ 8 → Fits p kept (withMasks ys h)
+fits-masks : {p : Params} {av : Available} {h : Held} → Fits p av h → (ys : List (List ℤ)) → T (all (isMask p) ys) → length ys ≤ 8 → Fits p av (withMasks ys h)
 fits-masks w ys m few = record {
   set = w .set;
   points = w .points;
@@ -109,12 +110,12 @@ fits-masks w ys m few = record {
 
 -- ---- each command
 
-module _ (t : Told) (kept : Kept) (h : Held) (tells : Tells t kept h) (fits : Fits (paramsTold t) kept h) (op : List ℕ) where
+module _ (t : Material) (av : Available) (h : Held) (reads : HeldIsRead t av h) (fits : Fits (paramsIn t) av h) (op : List ℕ) where
   -- a refusal other than 9 leaves all as it was
-  left : (b n : ℕ) → eqb n 0 ≡ false → eqb n 9 ≡ false → isEnding n ≡ false → Does t kept h b op (refused n h)
-  unfolding tell keep
+  left : (b n : ℕ) → eqb n 0 ≡ false → eqb n 9 ≡ false → isEnding n ≡ false → Does t av h b op (refused n h)
+  unfolding withCommand availableWith
   left b n z q e = record {
-    tells = rw (z, q) tells;
+    reads = rw (z, q) reads;
     fits = rw (z, q) fits;
     signs = λ s a. absurd (eqb-false n 0 z a);
     leaves = λ a. rw q;
@@ -124,15 +125,15 @@ module _ (t : Told) (kept : Kept) (h : Held) (tells : Tells t kept h) (fits : Fi
   }
 
   -- what is needed is not held
-  lacking : (b : ℕ) → Does t kept h b op (refused 10 h)
+  lacking : (b : ℕ) → Does t av h b op (refused 10 h)
   lacking b = left b 10 refl refl refl
 
   -- an accepted command other than 06
   taken : (b : ℕ) {next : Held} {x : Payload} → (b ≡ 6 → ⊥) → length (payloadText x) ≤ 12700
-      → Tells (tell t (played b op 0)) (keep t kept (played b op 0)) next → Fits (paramsTold (tell t (played b op 0))) (keep t kept (played b op 0)) next
-      → Does t kept h b op (accepted next x)
-  taken b other short tells fits = record {
-    tells = tells;
+      → HeldIsRead (withCommand t (played b op 0)) (availableWith t av (played b op 0)) next → Fits (paramsIn (withCommand t (played b op 0))) (availableWith t av (played b op 0)) next
+      → Does t av h b op (accepted next x)
+  taken b other short reads fits = record {
+    reads = reads;
     fits = fits;
     signs = λ s a. absurd (other s);
     leaves = λ a. absurd (a refl);
@@ -141,10 +142,10 @@ module _ (t : Told) (kept : Kept) (h : Held) (tells : Tells t kept h) (fits : Fi
     short = short;
   }
 
-  does-set : Does t kept h 1 op (chooseSet h op)
-  unfolding chooseSet tell tellAccepted keep keepAccepted
+  does-set : Does t av h 1 op (chooseSet h op)
+  unfolding chooseSet withCommand withAccepted availableWith availableWithAccepted
   does-set =
-      pick-by (Does t kept h 1 op) (not (isSet (getD op 0 0))) (λ e. left 1 2 refl refl refl)
+      pick-by (Does t av h 1 op) (not (isSet (getD op 0 0))) (λ e. left 1 2 refl refl refl)
       (λ e. taken 1 (λ s. omega arith) (omega arith)
       (record { set = holds refl; points = absent; key = absent; evaluations = absent; message = absent; masks = refl })
       (record {
@@ -157,23 +158,23 @@ module _ (t : Told) (kept : Kept) (h : Held) (tells : Tells t kept h) (fits : Fi
         few = omega arith;
       }))
 
-  -- in the set told
+  -- in the set read
   module _ (known : t .set < 5) where
     abbrev p : Params
-    p = paramsTold t
+    p = paramsIn t
 
     abbrev c : Chosen
-    c = chosenTold t
+    c = chosenIn t
 
     fitting : Fitting p
     fitting = set-fitting (t .set) known
 
-    does-points : Does t kept h 2 op (loadPoints c h op)
-    unfolding loadPoints tell tellAccepted keep keepAccepted
+    does-points : Does t av h 2 op (loadPoints c h op)
+    unfolding loadPoints withCommand withAccepted availableWith availableWithAccepted
     does-points =
-        pick-by (Does t kept h 2 op) (not (arePoints p (numbers 2 (p .t) op))) (λ e. left 2 4 refl refl refl)
+        pick-by (Does t av h 2 op) (not (arePoints p (numbers 2 (p .t) op))) (λ e. left 2 4 refl refl refl)
         (λ e. taken 2 (λ s. omega arith) (omega arith)
-        (record { set = tells .set; points = holds refl; key = absent; evaluations = absent; message = tells .message; masks = tells .masks })
+        (record { set = reads .set; points = holds refl; key = absent; evaluations = absent; message = reads .message; masks = reads .masks })
         (record {
           set = fits .set;
           points = holds (record { size = length-numbers-read 2 (p .t) op; rise = not-false (arePoints p (numbers 2 (p .t) op)) e });
@@ -184,20 +185,20 @@ module _ (t : Told) (kept : Kept) (h : Held) (tells : Tells t kept h) (fits : Fi
           few = fits .few;
         }))
 
-    does-key : length op ≡ p .n → Does t kept h 3 op (loadKey c h op)
-    unfolding loadKey tell tellAccepted keep keepAccepted
+    does-key : length op ≡ p .n → Does t av h 3 op (loadKey c h op)
+    unfolding loadKey withCommand withAccepted availableWith availableWithAccepted
     does-key size =
-        needing-by (Does t kept h 3 op) (tells .points) (fits .points) (lacking 3)
-        (λ points q j. pick-by (Does t kept h 3 op) (not (all isKeyByte op)) (λ e. left 3 5 refl refl refl)
+        needing-by (Does t av h 3 op) (reads .points) (fits .points) (lacking 3)
+        (λ points q j. pick-by (Does t av h 3 op) (not (all isKeyByte op)) (λ e. left 3 5 refl refl refl)
         (λ e. taken 3 (λ s. omega arith)
         (omega (arith, length-numbers (keyEvaluations p points op), length-evaluations p points op, j .size, fitting .points, fitting .size))
         (record {
-          set = tells .set;
-          points = tells .points;
+          set = reads .set;
+          points = reads .points;
           key = holds refl;
           evaluations = holds (ap (λ (l : List ℕ). keyEvaluations p l op) q);
-          message = tells .message;
-          masks = tells .masks;
+          message = reads .message;
+          masks = reads .masks;
         })
         (record {
           set = fits .set;
@@ -218,24 +219,24 @@ module _ (t : Told) (kept : Kept) (h : Held) (tells : Tells t kept h) (fits : Fi
         let size = length-map (numbers 2 (p .n) op) signed16 ∙ length-numbers-read 2 (p .n) op in
         and-intro (eqb (length (maskOf p op)) (p .n)) (within (p .k) (maskOf p op)) (true-holds (eq-eqb (length (maskOf p op)) (p .n) size)) (true-holds e)
 
-    does-mask : Does t kept h 4 op (loadMask c h op)
-    unfolding loadMask tell tellAccepted keep keepAccepted
+    does-mask : Does t av h 4 op (loadMask c h op)
+    unfolding loadMask withCommand withAccepted availableWith availableWithAccepted
     does-mask =
         let more = maskOf p op ∷ [] in
-        pick-by (Does t kept h 4 op) (leb 8 (length (h .masks))) (λ e. left 4 8 refl refl refl)
-        (λ f. pick-by (Does t kept h 4 op) (not (within (p .k) (maskOf p op))) (λ e. left 4 6 refl refl refl)
+        pick-by (Does t av h 4 op) (leb 8 (length (h .masks))) (λ e. left 4 8 refl refl refl)
+        (λ f. pick-by (Does t av h 4 op) (not (within (p .k) (maskOf p op))) (λ e. left 4 6 refl refl refl)
         (λ e. taken 4 (λ s. omega arith) (omega arith)
-        (tells-masks tells (ap (λ (l : List (List ℤ)). l ++ more) (tells .masks)))
+        (reads-masks reads (ap (λ (l : List (List ℤ)). l ++ more) (reads .masks)))
         (fits-masks fits (h .masks ++ more)
         (rw (all-append (isMask p) (h .masks) more)
         (and-intro (all (isMask p) (h .masks)) (all (isMask p) more) (fits .masks) (and-intro (isMask p (maskOf p op)) true (mask-read (not-false (within (p .k) (maskOf p op)) e)) tt)))
         (omega (arith, length-append (h .masks) more, leb-false 8 (length (h .masks)) f)))))
 
-    does-message : length op ≡ 64 → Does t kept h 5 op (loadMessage c h op)
-    unfolding loadMessage tell tellAccepted keep keepAccepted
+    does-message : length op ≡ 64 → Does t av h 5 op (loadMessage c h op)
+    unfolding loadMessage withCommand withAccepted availableWith availableWithAccepted
     does-message size =
         taken 5 (λ s. omega arith) (omega arith)
-        (record { set = tells .set; points = tells .points; key = tells .key; evaluations = tells .evaluations; message = holds refl; masks = tells .masks })
+        (record { set = reads .set; points = reads .points; key = reads .key; evaluations = reads .evaluations; message = holds refl; masks = reads .masks })
         (record {
           set = fits .set;
           points = fits .points;
@@ -246,14 +247,17 @@ module _ (t : Told) (kept : Kept) (h : Held) (tells : Tells t kept h) (fits : Fi
           few = fits .few;
         })
 
-    -- the library answers with what is held, which is what is told
-    after-answer : (a : Signing) (bytes : List ℕ) → answerTold t ≡ a → bytes ≡ bytesTold t → ((n : ℕ) → answerTold t ≡ signing.Refused n → n ≡ 9)
-        → Does t kept h 6 op (afterSigning c h a bytes)
-    unfolding tell tellAccepted keep keepAccepted firstPassing
+    -- the library answers with what is held, which is the material
+    after-answer : (a : Signing) (bytes : List ℕ) → answerWith t ≡ a → bytes ≡ bytesWith t → ((n : ℕ) → answerWith t ≡ signing.Refused n → n ≡ 9)
+        → Does t av h 6 op (afterSigning c h a bytes)
+    unfolding withCommand withAccepted availableWith availableWithAccepted firstPassing
     after-answer (signing.Signed i) bytes e w nine = record {
-      tells = tells-masks tells (ap (drop (suc i)) (tells .masks) ∙ ap (λ (x : Signing). drop (suc (passedOver (t .masks) x)) (t .masks)) (sym e));
+      reads = reads-masks reads (ap (drop (suc i)) (reads .masks) ∙ ap (λ (x : Signing). drop (suc (passedOver (t .masks) x)) (t .masks)) (sym e));
       fits = fits-masks fits (drop (suc i) (h .masks)) (all-drop (isMask p) (suc i) (h .masks) (fits .masks)) (omega (arith, length-drop (suc i) (h .masks), fits .few));
-      signs = λ s z. record { i = i; answer = e; payload = ap (signed i) w };
+      signs = λ s z. record {
+        answer = e ∙ ap (λ (x : Signing). signing.Signed (passedOver (t .masks) x)) (sym e);
+        payload = ap (signed i) w ∙ ap (λ (x : Signing). signed (passedOver (t .masks) x) (bytesWith t)) (sym e);
+      };
       leaves = λ a. absurd (a refl);
       alone = λ a. absurd (a refl);
       goes = refl;
@@ -264,14 +268,14 @@ module _ (t : Told) (kept : Kept) (h : Held) (tells : Tells t kept h) (fits : Fi
             length-decimal i,
             length-hex bytes,
             ap length w,
-            signature-size (keyTold t) (t .points) (joined (t .masks)) (t .message) (signatureRoom p) e,
+            signature-size (callWith t) e,
             fitting .size,
             fitting .weight,
           );
     }
     after-answer (signing.Refused n) bytes e w nine =
         rw (nine n e) (record {
-          tells = tells-masks tells refl;
+          reads = reads-masks reads refl;
           fits = fits-masks fits [] tt (omega arith);
           signs = λ s z. absurd (omega arith);
           leaves = λ a. refl;
@@ -280,41 +284,41 @@ module _ (t : Told) (kept : Kept) (h : Held) (tells : Tells t kept h) (fits : Fi
           short = omega arith;
         })
 
-    does-sign : Does t kept h 6 op (sign c h)
+    does-sign : Does t av h 6 op (sign c h)
     unfolding sign
     does-sign =
-        needing-by (Does t kept h 6 op) (tells .points) (fits .points) (lacking 6)
-        (λ points jq j. needing-by (Does t kept h 6 op) (tells .key) (fits .key) (lacking 6)
-        (λ key kq k. needing-by (Does t kept h 6 op) (tells .message) (fits .message) (lacking 6)
+        needing-by (Does t av h 6 op) (reads .points) (fits .points) (lacking 6)
+        (λ points jq j. needing-by (Does t av h 6 op) (reads .key) (fits .key) (lacking 6)
+        (λ key kq k. needing-by (Does t av h 6 op) (reads .message) (fits .message) (lacking 6)
         (λ message mq m.
-        let same : answerTold t ≡ signAnswer (t .set ∷ key) points (joined (h .masks)) message (signatureRoom p) =
-        rw (jq, kq, mq, tells .masks) in
+        let same : answerWith t ≡ signAnswer (t .set ∷ key) points (joined (h .masks)) message (signatureRoom p) =
+        rw (jq, kq, mq, reads .masks) in
         after-answer (signAnswer (t .set ∷ key) points (joined (h .masks)) message (signatureRoom p))
-        (signWritten (t .set ∷ key) points (joined (h .masks)) message (signatureRoom p)) same (rw (jq, kq, mq, tells .masks))
+        (signWritten (t .set ∷ key) points (joined (h .masks)) message (signatureRoom p)) same (rw (jq, kq, mq, reads .masks))
         (λ n e. sign-refused (t .set) known key points (h .masks) message k j (fits .masks) (fits .few) m n (sym same ∙ e)))))
 
-    after-check : (a : Verdict) → ((n : ℕ) → a ≡ verdict.Refused n → n ≡ 12) → Does t kept h 7 op (afterCheck c h a)
-    unfolding tell tellAccepted keep keepAccepted
-    after-check verdict.Yes twelve = taken 7 (λ s. omega arith) (omega (arith, length-decimal 1)) tells fits
-    after-check verdict.No twelve = taken 7 (λ s. omega arith) (omega (arith, length-decimal 0)) tells fits
+    after-check : (a : Verdict) → ((n : ℕ) → a ≡ verdict.Refused n → n ≡ 12) → Does t av h 7 op (afterCheck c h a)
+    unfolding withCommand withAccepted availableWith availableWithAccepted
+    after-check verdict.Yes twelve = taken 7 (λ s. omega arith) (omega (arith, length-decimal 1)) reads fits
+    after-check verdict.No twelve = taken 7 (λ s. omega arith) (omega (arith, length-decimal 0)) reads fits
     after-check (verdict.Refused n) twelve = rw (twelve n refl) (left 7 12 refl refl refl)
 
-    does-check : length op ≡ 2 * p .b + 2 * p .n → Does t kept h 7 op (check c h op)
+    does-check : length op ≡ 2 * p .b + 2 * p .n → Does t av h 7 op (check c h op)
     unfolding check
     does-check size =
-        needing-by (Does t kept h 7 op) (tells .points) (fits .points) (lacking 7)
-        (λ points jq j. needing-by (Does t kept h 7 op) (tells .evaluations) (fits .evaluations) (lacking 7)
-        (λ ws vq v. needing-by (Does t kept h 7 op) (tells .message) (fits .message) (lacking 7)
+        needing-by (Does t av h 7 op) (reads .points) (fits .points) (lacking 7)
+        (λ points jq j. needing-by (Does t av h 7 op) (reads .evaluations) (fits .evaluations) (lacking 7)
+        (λ ws vq v. needing-by (Does t av h 7 op) (reads .message) (fits .message) (lacking 7)
         (λ message mq m.
         after-check (checkAnswer (publicKey (t .set) points ws) message (t .set ∷ op)) (check-refused (t .set) known points ws message op j v m size))))
 
-    does-evaluations : Does t kept h 8 op (loadEvaluations c h op)
-    unfolding loadEvaluations tell tellAccepted keep keepAccepted
+    does-evaluations : Does t av h 8 op (loadEvaluations c h op)
+    unfolding loadEvaluations withCommand withAccepted availableWith availableWithAccepted
     does-evaluations =
-        needing-by (Does t kept h 8 op) (tells .points) (fits .points) (lacking 8)
-        (λ points jq j. pick-by (Does t kept h 8 op) (not (areEvaluations p (numbers 3 (p .t) op))) (λ e. left 8 7 refl refl refl)
+        needing-by (Does t av h 8 op) (reads .points) (fits .points) (lacking 8)
+        (λ points jq j. pick-by (Does t av h 8 op) (not (areEvaluations p (numbers 3 (p .t) op))) (λ e. left 8 7 refl refl refl)
         (λ e. taken 8 (λ s. omega arith) (omega arith)
-        (record { set = tells .set; points = tells .points; key = absent; evaluations = holds refl; message = tells .message; masks = tells .masks })
+        (record { set = reads .set; points = reads .points; key = absent; evaluations = holds refl; message = reads .message; masks = reads .masks })
         (record {
           set = fits .set;
           points = fits .points;
@@ -325,14 +329,14 @@ module _ (t : Told) (kept : Kept) (h : Held) (tells : Tells t kept h) (fits : Fi
           few = fits .few;
         })))
 
-    does-in-set : (b : ℕ) → 1 < b → b < 9 → length op ≡ operandSizeIn p b → Does t kept h b op (commandIn c h b op)
+    does-in-set : (b : ℕ) → 1 < b → b < 9 → length op ≡ operandSizeIn p b → Does t av h b op (commandIn c h b op)
     does-in-set b low high size =
-        pick-by (Does t kept h b op) (eqb b 2) (λ e. rw (eqb-true b 2 e) does-points)
-        (λ n2. pick-by (Does t kept h b op) (eqb b 3) (λ e. rw (eqb-true b 3 e) (does-key (rw (eqb-true b 3 e) at size)))
-        (λ n3. pick-by (Does t kept h b op) (eqb b 4) (λ e. rw (eqb-true b 4 e) does-mask)
-        (λ n4. pick-by (Does t kept h b op) (eqb b 5) (λ e. rw (eqb-true b 5 e) (does-message (rw (eqb-true b 5 e) at size)))
-        (λ n5. pick-by (Does t kept h b op) (eqb b 6) (λ e. rw (eqb-true b 6 e) does-sign)
-        (λ n6. pick-by (Does t kept h b op) (eqb b 7) (λ e. rw (eqb-true b 7 e) (does-check (rw (eqb-true b 7 e) at size)))
+        pick-by (Does t av h b op) (eqb b 2) (λ e. rw (eqb-true b 2 e) does-points)
+        (λ n2. pick-by (Does t av h b op) (eqb b 3) (λ e. rw (eqb-true b 3 e) (does-key (rw (eqb-true b 3 e) at size)))
+        (λ n3. pick-by (Does t av h b op) (eqb b 4) (λ e. rw (eqb-true b 4 e) does-mask)
+        (λ n4. pick-by (Does t av h b op) (eqb b 5) (λ e. rw (eqb-true b 5 e) (does-message (rw (eqb-true b 5 e) at size)))
+        (λ n5. pick-by (Does t av h b op) (eqb b 6) (λ e. rw (eqb-true b 6 e) does-sign)
+        (λ n6. pick-by (Does t av h b op) (eqb b 7) (λ e. rw (eqb-true b 7 e) (does-check (rw (eqb-true b 7 e) at size)))
         (λ n7.
         let last : b ≡ 8 = omega (arith, eqb-false b 2 n2, eqb-false b 3 n3, eqb-false b 4 n4, eqb-false b 5 n5, eqb-false b 6 n6, eqb-false b 7 n7) in
         rw last does-evaluations))))))
@@ -341,15 +345,15 @@ module _ (t : Told) (kept : Kept) (h : Held) (tells : Tells t kept h) (fits : Fi
   abbrev inForce : ℕ → Option Chosen → Done
   inForce b o = elim o [ none ↦ refused 3 h | some x ↦ commandIn x h b op ]
 
-  does-in-force : (b : ℕ) → 1 < b → b < 9 → {told : Bool} (o : Option Chosen) → Holding (λ (x : Chosen). x ≡ chosenTold t) told o → Holding (λ (x : Chosen). x .byte < 5) told o
-      → needsSet b && lacksSet o ≡ false → length op ≡ operandSize o b → Does t kept h b op (inForce b o)
+  does-in-force : (b : ℕ) → 1 < b → b < 9 → {given : Bool} (o : Option Chosen) → Holding (λ (x : Chosen). x ≡ chosenIn t) given o → Holding (λ (x : Chosen). x .byte < 5) given o
+      → needsSet b && lacksSet o ≡ false → length op ≡ operandSize o b → Does t av h b op (inForce b o)
   does-in-force b low high none absent absent needs size = absurd (true≢false (rw (le-leb 2 b low) at needs))
   does-in-force b low high (some x) (holds e) (holds known) needs size =
       rw e (does-in-set (rw e at known) b low high (rw (ne-eqb b 1 (λ q. omega arith), e) at size))
 
   -- 01 to 08, with an operand of its size
-  pub does : (b : ℕ) → 0 < b → b < 9 → needsSet b && lacksSet (h .set) ≡ false → length op ≡ operandSize (h .set) b → Does t kept h b op (command h b op)
+  pub does : (b : ℕ) → 0 < b → b < 9 → needsSet b && lacksSet (h .set) ≡ false → length op ≡ operandSize (h .set) b → Does t av h b op (command h b op)
   unfolding command
   does b low high needs size =
-      pick-by (Does t kept h b op) (eqb b 1) (λ e. rw (eqb-true b 1 e) does-set)
-      (λ e. does-in-force b (omega (arith, eqb-false b 1 e)) high (h .set) (tells .set) (fits .set) needs size)
+      pick-by (Does t av h b op) (eqb b 1) (λ e. rw (eqb-true b 1 e) does-set)
+      (λ e. does-in-force b (omega (arith, eqb-false b 1 e)) high (h .set) (reads .set) (fits .set) needs size)

@@ -1,4 +1,4 @@
--- Sessions that plays lead to: what is held is what is told, after any list of plays.
+-- Sessions that plays lead to: what is held is what is read, after any list of plays.
 -- Assumes nothing.
 use mathlib.Core.Path.{_≡_, refl, sym, _∙_}
 use mathlib.Core.Bool.{false, true≢false}
@@ -6,59 +6,60 @@ use mathlib.Core.List.{List, [], _∷_, _++_}
 use Prim.Native.Nat.{ℕ}
 use native.Mathlib.Omega.{arith}
 use Rattle.session_rules.specs.Play.{Session, opened, step, Outcome, play}
-use Rattle.session_rules.specs.Plays.{Event, eventOf, eventsFrom, Told, untold, paramsTold, tell}
+use Rattle.session_rules.specs.Plays.{Event, eventOf, eventsFrom, Material, noMaterial, paramsIn, withCommand}
+use Rattle.session_rules.specs.HeldIsRead.{materialAfter, Available, noneAvailable, availableWith, availableAfter, absent, HeldIsRead}
 use Rattle.session_rules.proofs.After.{after, play-by}
-use Rattle.session_rules.proofs.Telling.{absent, Kept, unkept, toldBy, keep, keptBy, Tells, Fits}
+use Rattle.session_rules.proofs.Fits.{Fits}
 use Rattle.session_rules.proofs.Stepping.{Steps, steps}
 
--- what holds of a session after the commands that tell t and the public evaluations kept
-pub record Reached (t : Told) (kept : Kept) (s : Session) : Type 0 where
-  pub tells : Tells t kept (s .held)
-  pub fits : Fits (paramsTold t) kept (s .held)
+-- what holds of a session after the commands from which t and av are read
+pub record Reached (t : Material) (av : Available) (s : Session) : Type 0 where
+  pub reads : HeldIsRead t av (s .held)
+  pub fits : Fits (paramsIn t) av (s .held)
   pub fresh : s .started ≡ false → s .place ≡ 0
 
-pub reached-opened : Reached untold unkept opened
-unfolding opened untold unkept
+pub reached-opened : Reached noMaterial noneAvailable opened
+unfolding opened noMaterial noneAvailable
 reached-opened = record {
-  tells = record { set = absent; points = absent; key = absent; evaluations = absent; message = absent; masks = refl };
+  reads = record { set = absent; points = absent; key = absent; evaluations = absent; message = absent; masks = refl };
   fits = record { set = absent; points = absent; key = absent; evaluations = absent; message = absent; masks = tt; few = omega arith };
   fresh = λ e. refl;
 }
 
-module _ (t : Told) (kept : Kept) (s : Session) (r : Reached t kept s) (file : List ℕ) where
-  pub reached-step : Steps t kept s file (step s file)
-  reached-step = steps t kept s (r .tells) (r .fits) file (r .fresh)
+module _ (t : Material) (av : Available) (s : Session) (r : Reached t av s) (file : List ℕ) where
+  pub reached-step : Steps t av s file (step s file)
+  reached-step = steps t av s (r .reads) (r .fits) file (r .fresh)
 
   -- one play
   pub reached-play : (buffer : List ℕ)
-      → Reached (toldBy t (eventOf s file (play s file buffer))) (keptBy t kept (eventOf s file (play s file buffer))) (play s file buffer .session)
-  unfolding toldBy keptBy tell keep
+      → Reached (materialAfter t (eventOf s file (play s file buffer))) (availableAfter t av (eventOf s file (play s file buffer))) (play s file buffer .session)
+  unfolding materialAfter availableAfter withCommand availableWith
   reached-play buffer =
       let w = reached-step in
-      play-by s file buffer (λ (o : Outcome). Reached (toldBy t (eventOf s file o)) (keptBy t kept (eventOf s file o)) (o .session)) (λ e. r) (λ e. r)
-      (λ e g. record { tells = w .tells; fits = w .fits; fresh = λ f. absurd (true≢false (sym (w .starts) ∙ f)) })
+      play-by s file buffer (λ (o : Outcome). Reached (materialAfter t (eventOf s file o)) (availableAfter t av (eventOf s file o)) (o .session)) (λ e. r) (λ e. r)
+      (λ e g. record { reads = w .reads; fits = w .fits; fresh = λ f. absurd (true≢false (sym (w .starts) ∙ f)) })
 
 -- ---- any list of plays
 
-told-append : (t : Told) (es ds : List Event) → toldBy t (es ++ ds) ≡ toldBy (toldBy t es) ds
-unfolding toldBy
-told-append t [] ds = refl
-told-append t (e ∷ es) ds = told-append (tell t e) es ds
+material-append : (t : Material) (es ds : List Event) → materialAfter t (es ++ ds) ≡ materialAfter (materialAfter t es) ds
+unfolding materialAfter
+material-append t [] ds = refl
+material-append t (e ∷ es) ds = material-append (withCommand t e) es ds
 
-kept-append : (t : Told) (kept : Kept) (es ds : List Event) → keptBy t kept (es ++ ds) ≡ keptBy (toldBy t es) (keptBy t kept es) ds
-unfolding toldBy keptBy
-kept-append t kept [] ds = refl
-kept-append t kept (e ∷ es) ds = kept-append (tell t e) (keep t kept e) es ds
+available-append : (t : Material) (av : Available) (es ds : List Event) → availableAfter t av (es ++ ds) ≡ availableAfter (materialAfter t es) (availableAfter t av es) ds
+unfolding materialAfter availableAfter
+available-append t av [] ds = refl
+available-append t av (e ∷ es) ds = available-append (withCommand t e) (availableWith t av e) es ds
 
-pub reached-after : (t : Told) (kept : Kept) (s : Session) → Reached t kept s → (file : List ℕ) (buffers : List (List ℕ))
-    → Reached (toldBy t (eventsFrom s file buffers)) (keptBy t kept (eventsFrom s file buffers)) (after s file buffers)
-unfolding toldBy keptBy eventsFrom after
-reached-after t kept s r file [] = r
-reached-after t kept s r file (buffer ∷ buffers) =
+pub reached-after : (t : Material) (av : Available) (s : Session) → Reached t av s → (file : List ℕ) (buffers : List (List ℕ))
+    → Reached (materialAfter t (eventsFrom s file buffers)) (availableAfter t av (eventsFrom s file buffers)) (after s file buffers)
+unfolding materialAfter availableAfter eventsFrom after
+reached-after t av s r file [] = r
+reached-after t av s r file (buffer ∷ buffers) =
     let es = eventOf s file (play s file buffer) in
     let next = play s file buffer .session in
-    rw (told-append t es (eventsFrom next file buffers), kept-append t kept es (eventsFrom next file buffers))
-    (reached-after (toldBy t es) (keptBy t kept es) next (reached-play t kept s r file buffer) file buffers)
+    rw (material-append t es (eventsFrom next file buffers), available-append t av es (eventsFrom next file buffers))
+    (reached-after (materialAfter t es) (availableAfter t av es) next (reached-play t av s r file buffer) file buffers)
 
 -- ---- any session: it comes from opening, and changes only by playing, whatever file and row buffer each play is lent
 
@@ -71,8 +72,8 @@ unfolding after
 reachable-after r file [] = r
 reachable-after r file (buffer ∷ buffers) = reachable-after (once-more r file buffer) file buffers
 
-pub reached : {s : Session} → Reachable s → (t : Told) × ((kept : Kept) × Reached t kept s)
-reached just-opened = (untold, (unkept, reached-opened))
+pub reached : {s : Session} → Reachable s → (t : Material) × ((av : Available) × Reached t av s)
+reached just-opened = (noMaterial, (noneAvailable, reached-opened))
 reached (once-more {s = s} r file buffer) =
-    let (t, (kept, w)) = reached r in
-    (toldBy t (eventOf s file (play s file buffer)), (keptBy t kept (eventOf s file (play s file buffer)), reached-play t kept s w file buffer))
+    let (t, (av, w)) = reached r in
+    (materialAfter t (eventOf s file (play s file buffer)), (availableAfter t av (eventOf s file (play s file buffer)), reached-play t av s w file buffer))

@@ -3,3 +3,4 @@ pub mod Commands
 pub mod Rows
 pub mod Play
 pub mod Plays
+pub mod HeldIsRead

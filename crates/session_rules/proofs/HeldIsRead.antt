@@ -7,12 +7,12 @@
 use mathlib.Core.List.{List}
 use Prim.Native.Nat.{ℕ}
 use Rattle.session_rules.specs.Play.{opened}
-use Rattle.session_rules.specs.Plays.{events, untold}
+use Rattle.session_rules.specs.Plays.{events, noMaterial}
+use Rattle.session_rules.specs.HeldIsRead.{materialAfter, noneAvailable, availableAfter, HeldIsRead}
 use Rattle.session_rules.proofs.After.{after}
-use Rattle.session_rules.proofs.Telling.{unkept, toldBy, keptBy, Tells}
 use Rattle.session_rules.proofs.Reaching.{reached-opened, reached-after}
 
-pub held-is-told : (file : List ℕ) (buffers : List (List ℕ))
-    → Tells (toldBy untold (events file buffers)) (keptBy untold unkept (events file buffers)) (after opened file buffers .held)
+pub held-is-read : (file : List ℕ) (buffers : List (List ℕ))
+    → HeldIsRead (materialAfter noMaterial (events file buffers)) (availableAfter noMaterial noneAvailable (events file buffers)) (after opened file buffers .held)
 unfolding events
-held-is-told file buffers = reached-after untold unkept opened reached-opened file buffers .tells
+held-is-read file buffers = reached-after noMaterial noneAvailable opened reached-opened file buffers .reads

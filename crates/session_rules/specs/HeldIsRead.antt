@@ -1,0 +1,82 @@
+-- What it is for a session to hold just what is read from the commands played: the material of a 06, and which of it (with the public evaluations) no later
+-- command has forgotten.
+-- Assumes nothing.
+use mathlib.Core.Path.{_≡_}
+use mathlib.Core.Bool.{Bool, true, false}
+use mathlib.Core.List.{List, [], _∷_}
+use mathlib.Core.Option.{Option, none, some}
+use Prim.Native.Nat.{ℕ}
+use lib.Dec.{eqb}
+use Rattle.algebra.specs.Choice.{pick}
+use Rattle.encoding.specs.Bytes.{numbers}
+use Rattle.session_rules.specs.Held.{Chosen, Held}
+use Rattle.session_rules.specs.Commands.{keyEvaluations}
+use Rattle.session_rules.specs.Plays.{Event, Material, paramsIn, withCommand}
+
+-- the material after more commands
+unfoldable pub materialAfter : Material → List Event → Material
+materialAfter m [] = m
+materialAfter m (e ∷ es) = materialAfter (withCommand m e) es
+
+-- beside the material: which things an accepted command gave that no later one has forgotten, and the public evaluations given last
+pub record Available : Type 0 where
+  pub set : Bool
+  pub points : Bool
+  pub key : Bool
+  pub evaluations : Bool
+  pub message : Bool
+  pub values : List ℕ
+
+unfoldable pub noneAvailable : Available
+noneAvailable = record { set = false; points = false; key = false; evaluations = false; message = false; values = [] }
+
+-- one more accepted command: 01 forgets all else, 02 forgets key and public evaluations, 03 works out its public evaluations, 08 forgets the key
+unfoldable pub availableWithAccepted : Material → Available → ℕ → List ℕ → Available
+availableWithAccepted m a b op =
+    pick (eqb b 1) (record { set = true; points = false; key = false; evaluations = false; message = false; values = a .values })
+    (pick (eqb b 2) (record { set = a .set; points = true; key = false; evaluations = false; message = a .message; values = a .values })
+    (pick (eqb b 3) (record {
+      set = a .set;
+      points = a .points;
+      key = true;
+      evaluations = true;
+      message = a .message;
+      values = keyEvaluations (paramsIn m) (m .points) op;
+    })
+    (pick (eqb b 5) (record { set = a .set; points = a .points; key = a .key; evaluations = a .evaluations; message = true; values = a .values })
+    (pick (eqb b 8) (record {
+      set = a .set;
+      points = a .points;
+      key = false;
+      evaluations = true;
+      message = a .message;
+      values = numbers 3 (paramsIn m .t) op;
+    })
+    a))))
+
+-- one more command
+unfoldable pub availableWith : Material → Available → Event → Available
+availableWith m a e = pick (eqb (e .number) 0) (availableWithAccepted m a (e .byte) (e .operand)) a
+
+-- more commands
+unfoldable pub availableAfter : Material → Available → List Event → Available
+availableAfter m a [] = a
+availableAfter m a (e ∷ es) = availableAfter (withCommand m e) (availableWith m a e) es
+
+-- the set read, in force
+abbrev pub chosenIn : Material → Chosen
+chosenIn m = record { byte = m .set; params = paramsIn m }
+
+-- where a thing is available something is held, and P of it; elsewhere nothing is
+pub data Holding {A : Type 0} (P : A → Type 0) : Bool → Option A → Type 0 where
+  absent : Holding P false none
+  holds : {a : A} → P a → Holding P true (some a)
+
+-- what is held is what is read
+pub record HeldIsRead (m : Material) (a : Available) (h : Held) : Type 0 where
+  pub set : Holding (λ (c : Chosen). c ≡ chosenIn m) (a .set) (h .set)
+  pub points : Holding (λ (l : List ℕ). l ≡ m .points) (a .points) (h .points)
+  pub key : Holding (λ (l : List ℕ). l ≡ m .key) (a .key) (h .key)
+  pub evaluations : Holding (λ (l : List ℕ). l ≡ a .values) (a .evaluations) (h .evaluations)
+  pub message : Holding (λ (l : List ℕ). l ≡ m .message) (a .message) (h .message)
+  pub masks : h .masks ≡ m .masks
