@@ -17,8 +17,8 @@ use Rattle.session_rules.proofs.Calls.{maskFrom}
 use Rattle.session_rules.proofs.HidingOfSessions.{hiding-of-sessions, hiding-of-sessions-exactly, no-signing}
 use Rattle.session.specs.declared.Session as code
 use Rattle.session.specs.Session.{sessionOf}
-use Rattle.session.specs.Turns.{Turn, Turns, turnEvents}
-use Rattle.session.proofs.TurnsByRules.{lentBy, turns-by-rules}
+use Rattle.session.specs.Turns.{Turn, Turns, lentBy, turnEvents}
+use Rattle.session.proofs.TurnsByRules.{turns-by-rules}
 
 -- for keys of equal public evaluations, one for each accepted 06, exactly one list of masks does the same, and the check says yes to each
 abbrev Hides : List Event → Type 0

@@ -8,7 +8,7 @@ use mathlib.Core.List.{List}
 use Prim.Native.Nat.{ℕ}
 use Rattle.session_rules.specs.Play.{opened}
 use Rattle.session_rules.specs.Plays.{events, untold}
-use Rattle.session_rules.proofs.After.{after}
+use Rattle.session_rules.specs.After.{after}
 use Rattle.session_rules.proofs.Telling.{unkept, toldBy, keptBy, Tells}
 use Rattle.session_rules.proofs.Reaching.{reached-opened, reached-after}
 

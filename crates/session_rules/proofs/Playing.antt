@@ -2,7 +2,7 @@
 -- and how much it adds to its row.
 -- Assumes nothing.
 use mathlib.Core.Path.{_≡_, refl, sym, ap, _∙_}
-use mathlib.Core.Bool.{Bool, true, false, not, _&&_, _||_, true≢false}
+use mathlib.Core.Bool.{Bool, true, false, not, _&&_, true≢false}
 use mathlib.Core.List.{List, [], _∷_, _++_, map}
 use mathlib.Core.Option.{Option, none, some}
 use Prim.Native.Nat.{ℕ, zero, suc, _+_, _*_, _≤_, _<_}
@@ -36,14 +36,11 @@ use Rattle.session_rules.specs.Commands.{Payload, nothing, signed, Done,
 use Rattle.session_rules.specs.Rows.{decimal, hex, spaced, payloadText}
 use Rattle.session_rules.specs.Play.{lacksSet}
 use Rattle.session_rules.specs.Plays.{Event, Told, withMasksTold, passedOver, keyTold, paramsTold, firstPassing, tellAccepted, tell}
-use Rattle.session_rules.proofs.Telling.{Holding, absent, holds, Kept, keepAccepted, keep, chosenTold, Tells, isMask, Fits}
+use Rattle.session_rules.specs.Refusals.{isEnding}
+use Rattle.session_rules.proofs.Telling.{Holding, absent, holds, Kept, keepAccepted, keep, chosenTold, Tells, isMask, ArePoints, Fits}
 use Rattle.session_rules.proofs.Library.{sign-refused, check-refused}
 use Rattle.session_rules.proofs.Signature.{signature-size}
 use Rattle.session_rules.proofs.Text.{length-decimal, length-hex, length-numbers}
-
--- the numbers that end a session: 1, 3, 13 to 16
-abbrev pub isEnding : ℕ → Bool
-isEnding n = eqb n 1 || (eqb n 3 || (leb 13 n && leb n 16))
 
 -- a command that was played; what is told does not look at its buffer
 abbrev pub played : ℕ → List ℕ → ℕ → Event
@@ -184,13 +181,17 @@ module _ (t : Told) (kept : Kept) (h : Held) (tells : Tells t kept h) (fits : Fi
           few = fits .few;
         }))
 
+    -- the evaluations of a key are below q
+    allowed : (points : List ℕ) → ArePoints p points → areEvaluations p (keyEvaluations p points op) ≡ true
+    allowed points j = public-key-read (set-sound (t .set) known) fitting (t .set) (map keyCoefficient op) points (j .size) (j .rise) .evaluations-allowed
+
     does-key : length op ≡ p .n → Does t kept h 3 op (loadKey c h op)
     unfolding loadKey tell tellAccepted keep keepAccepted
     does-key size =
         needing-by (Does t kept h 3 op) (tells .points) (fits .points) (lacking 3)
         (λ points q j. pick-by (Does t kept h 3 op) (not (all isKeyByte op)) (λ e. left 3 5 refl refl refl)
         (λ e. taken 3 (λ s. omega arith)
-        (omega (arith, length-numbers (keyEvaluations p points op), length-evaluations p points op, j .size, fitting .points, fitting .size))
+        (omega (arith, length-numbers (p .q) (keyEvaluations p points op) (omega (arith, fitting .modulus)) (true-holds (allowed points j)), length-evaluations p points op, j .size, fitting .points, fitting .size))
         (record {
           set = tells .set;
           points = tells .points;
@@ -205,7 +206,7 @@ module _ (t : Told) (kept : Kept) (h : Held) (tells : Tells t kept h) (fits : Fi
           key = holds (record { size = size; bytes = not-false (all isKeyByte op) e });
           evaluations = holds (record {
             size = length-evaluations p points op ∙ j .size;
-            below = public-key-read (set-sound (t .set) known) fitting (t .set) (map keyCoefficient op) points (j .size) (j .rise) .evaluations-allowed;
+            below = allowed points j;
           });
           message = fits .message;
           masks = fits .masks;

@@ -1,13 +1,13 @@
 -- Sessions that plays lead to: what is held is what is told, after any list of plays.
 -- Assumes nothing.
-use mathlib.Core.Path.{_≡_, refl, sym, _∙_}
-use mathlib.Core.Bool.{false, true≢false}
+use mathlib.Core.Path.{_≡_, refl}
 use mathlib.Core.List.{List, [], _∷_, _++_}
 use Prim.Native.Nat.{ℕ}
 use native.Mathlib.Omega.{arith}
 use Rattle.session_rules.specs.Play.{Session, opened, step, Outcome, play}
 use Rattle.session_rules.specs.Plays.{Event, eventOf, eventsFrom, Told, untold, paramsTold, tell}
-use Rattle.session_rules.proofs.After.{after, play-by}
+use Rattle.session_rules.specs.After.{after, Reachable, just-opened, once-more}
+use Rattle.session_rules.proofs.After.{play-by}
 use Rattle.session_rules.proofs.Telling.{absent, Kept, unkept, toldBy, keep, keptBy, Tells, Fits}
 use Rattle.session_rules.proofs.Stepping.{Steps, steps}
 
@@ -15,19 +15,17 @@ use Rattle.session_rules.proofs.Stepping.{Steps, steps}
 pub record Reached (t : Told) (kept : Kept) (s : Session) : Type 0 where
   pub tells : Tells t kept (s .held)
   pub fits : Fits (paramsTold t) kept (s .held)
-  pub fresh : s .started ≡ false → s .place ≡ 0
 
 pub reached-opened : Reached untold unkept opened
 unfolding opened untold unkept
 reached-opened = record {
   tells = record { set = absent; points = absent; key = absent; evaluations = absent; message = absent; masks = refl };
   fits = record { set = absent; points = absent; key = absent; evaluations = absent; message = absent; masks = tt; few = omega arith };
-  fresh = λ e. refl;
 }
 
 module _ (t : Told) (kept : Kept) (s : Session) (r : Reached t kept s) (file : List ℕ) where
-  pub reached-step : Steps t kept s file (step s file)
-  reached-step = steps t kept s (r .tells) (r .fits) file (r .fresh)
+  pub reached-step : Steps t kept s (step s file)
+  reached-step = steps t kept s (r .tells) (r .fits) file
 
   -- one play
   pub reached-play : (buffer : List ℕ)
@@ -36,7 +34,7 @@ module _ (t : Told) (kept : Kept) (s : Session) (r : Reached t kept s) (file : L
   reached-play buffer =
       let w = reached-step in
       play-by s file buffer (λ (o : Outcome). Reached (toldBy t (eventOf s file o)) (keptBy t kept (eventOf s file o)) (o .session)) (λ e. r) (λ e. r)
-      (λ e g. record { tells = w .tells; fits = w .fits; fresh = λ f. absurd (true≢false (sym (w .starts) ∙ f)) })
+      (λ e g. record { tells = w .tells; fits = w .fits })
 
 -- ---- any list of plays
 
@@ -60,16 +58,7 @@ reached-after t kept s r file (buffer ∷ buffers) =
     rw (told-append t es (eventsFrom next file buffers), kept-append t kept es (eventsFrom next file buffers))
     (reached-after (toldBy t es) (keptBy t kept es) next (reached-play t kept s r file buffer) file buffers)
 
--- ---- any session: it comes from opening, and changes only by playing, whatever file and row buffer each play is lent
-
-pub data Reachable : Session → Type 0 where
-  just-opened : Reachable opened
-  once-more : {s : Session} → Reachable s → (file buffer : List ℕ) → Reachable (play s file buffer .session)
-
-pub reachable-after : {s : Session} → Reachable s → (file : List ℕ) (buffers : List (List ℕ)) → Reachable (after s file buffers)
-unfolding after
-reachable-after r file [] = r
-reachable-after r file (buffer ∷ buffers) = reachable-after (once-more r file buffer) file buffers
+-- ---- any session
 
 pub reached : {s : Session} → Reachable s → (t : Told) × ((kept : Kept) × Reached t kept s)
 reached just-opened = (untold, (unkept, reached-opened))

@@ -3,3 +3,8 @@ pub mod Commands
 pub mod Rows
 pub mod Play
 pub mod Plays
+pub mod After
+pub mod Transcript
+pub mod RightPlays
+pub mod Ordinals
+pub mod Refusals

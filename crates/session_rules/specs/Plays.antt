@@ -24,7 +24,7 @@ use Rattle.answers.specs.Answer.{setByte}
 use Rattle.entry_sign.specs.Sign.{signAnswer, signWritten}
 use Rattle.entry_check.specs.Check.{checkAnswer, signatureRead}
 use Rattle.session_rules.specs.Commands.{maskOf, signatureRoom}
-use Rattle.session_rules.specs.Play.{Session, opened, step, Answer, row, fault, over, Outcome, play}
+use Rattle.session_rules.specs.Play.{Session, opened, step, PlayAnswer, row, fault, over, Outcome, play}
 
 -- a command that was played: its byte, operand and number, and the row buffer after the play
 pub record Event : Type 0 where
@@ -37,7 +37,7 @@ pub record Event : Type 0 where
 abbrev pub eventOf : Session → List ℕ → Outcome → List Event
 eventOf s file o = written (o .answer)
   where
-    written : Answer → List Event
+    written : PlayAnswer → List Event
     written (row n) = record { byte = step s file .byte; operand = step s file .operand; number = n; buffer = o .buffer } ∷ []
     written fault = []
     written over = []

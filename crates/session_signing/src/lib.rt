@@ -112,7 +112,7 @@ fn after_signing(p: Params, h: Held, passed: u8) -> Held
 }
 
 // 10 with its row, where something lacks: what is held stays.
-fn lack(h: Held, ordinal: u32, rows: &mut [u8]) -> Done
+fn lack(h: Held, ordinal: usize, rows: &mut [u8]) -> Done
     requires { ⌜ length (now rows) ≡ 16384 ⌝ }
     ensures ran { λ r. ⌜ ((p : Params) → Ran (refused 10 (heldIn p h)) ordinal 6 (r .number) (heldIn p (r .held)) (now (rows .entry)) (now (rows .exit))) ⌝ }
     ensures set { λ r. ⌜ r .held .set ≡ h .set ⌝ }
@@ -125,7 +125,7 @@ fn lack(h: Held, ordinal: u32, rows: &mut [u8]) -> Done
 }
 
 // 06, with its row.
-pub fn sign_held(p: Params, h: Held, ordinal: u32, rows: &mut [u8]) -> Done
+pub fn sign_held(p: Params, h: Held, ordinal: usize, rows: &mut [u8]) -> Done
     requires { ⌜ InSet p (h .set) ⌝ }
     requires { ⌜ length (now rows) ≡ 16384 ⌝ }
     ensures ran { λ r. ⌜ Ran (sign (chosenIn p (h .set)) (heldIn p h)) ordinal 6 (r .number) (heldIn p (r .held)) (now (rows .entry)) (now (rows .exit)) ⌝ }
