@@ -12,15 +12,16 @@ use lib.Signed.{mag}
 use Rattle.algebra.specs.All.{all}
 use Rattle.algebra.proofs.All.{all-from}
 use Rattle.algebra.proofs.Test.{and-left, and-right, and-intro, holds-true, true-holds}
+use Rattle.algebra.specs.Integer.{within}
 use Rattle.parameters.specs.declared.Params.{Params}
 use Rattle.parameters.specs.Sound.{Sound, Fitting}
-use Rattle.polynomial.specs.Polynomial.{within, ternary, weight}
+use Rattle.polynomial.specs.Polynomial.{ternary, weight}
 use Rattle.polynomial.specs.Evaluation.{evaluation, evaluations}
 use Rattle.polynomial.proofs.EvaluationLaws.{evaluation-below}
 use Rattle.encoding.specs.Challenge.{entriesFrom, entriesOf, areEntries, challengeOf}
 use Rattle.encoding.specs.Encoding.{publicKeySize, publicKey, PublicKeyRange, arePoints, areEvaluations, pointsOf, evaluationsOf, signatureSize, SignatureRange, entriesRead, pointRead}
 use Rattle.encoding.proofs.Sign.{mag-le}
-use Rattle.encoding.proofs.Testing.{rising-below}
+use Rattle.encoding.proofs.Testing.{increasing-below}
 use Rattle.encoding.proofs.OneEncoding.{points-read-back, evaluations-read-back, public-key-length, entries-read-back, point-read-back, signature-length, entries-accepted, entries-below, challenge-read-back}
 use Rattle.scheme.specs.Scheme.{Signature}
 use Rattle.signer.specs.Signer.{signatureOf}
@@ -56,7 +57,7 @@ public-key-read {p} sound fitting set f points size rise =
       points-length = size;
       points-below =
           all-from (λ (j : ℕ). ltb j 65536) points 0
-          (λ i h. lt→ltb (getD points i 0) 65536 (omega (arith, rising-below (p .n) 0 points (true-holds rise) i h, fitting .size)));
+          (λ i h. lt→ltb (getD points i 0) 65536 (omega (arith, increasing-below (p .n) 1 points (true-holds rise) i h, fitting .size)));
       evaluations-length = length-map points (evaluation p f) ∙ size;
       evaluations-below =
           all-weaker (λ (v : ℕ). ltb v (p .q)) (λ (v : ℕ). ltb v 16777216) (λ v t. lt→ltb v 16777216 (omega (arith, ltb→lt v (p .q) t, fitting .modulus))) vs below;

@@ -12,9 +12,9 @@ use lib.Dec.{T, ltb, eqb, ltb→lt, lit<}
 use lib.IntN.{ℤ}
 use lib.ListN.{length, getD}
 use Rattle.algebra.specs.Choice.{pick}
+use Rattle.algebra.specs.Integer.{within}
 use Rattle.parameters.specs.declared.Params.{Params}
 use Rattle.parameters.specs.Sets.{setOf}
-use Rattle.polynomial.specs.Polynomial.{within}
 use Rattle.polynomial.specs.Evaluation.{evaluations}
 use Rattle.challenge.specs.Draw.{drawChallenge}
 use Rattle.encoding.specs.Encoding.{secretKeySize, signatureSize, arePoints, isKey, keyOf}

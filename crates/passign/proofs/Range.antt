@@ -8,9 +8,10 @@ use lib.Dec.{T}
 use lib.IntN.{ℤ}
 use lib.ListN.{length}
 use Rattle.algebra.proofs.Test.{true-holds}
+use Rattle.algebra.specs.Integer.{within}
 use Rattle.parameters.specs.declared.Params.{Params}
 use Rattle.parameters.specs.Sets.{setOf}
-use Rattle.polynomial.specs.Polynomial.{point, within}
+use Rattle.polynomial.specs.Polynomial.{point}
 use Rattle.polynomial.specs.Evaluation.{evaluations}
 use Rattle.challenge.specs.Draw.{drawChallenge}
 use Rattle.encoding.specs.Encoding.{keyOf}

@@ -8,11 +8,12 @@ use lib.IntN.{ℤ, pos, negsuc}
 use lib.ListN.{length, replicate}
 use Rattle.algebra.specs.Choice.{pick}
 use Rattle.algebra.specs.All.{all}
+use Rattle.algebra.specs.Integer.{within}
 use Rattle.parameters.specs.Sets.{sets, setOf}
-use Rattle.polynomial.specs.Polynomial.{star, point, within}
+use Rattle.polynomial.specs.Polynomial.{star, point}
 use Rattle.polynomial.specs.Evaluation.{evaluation, evaluations}
-use Rattle.challenge.specs.Draw.{draw, kept, offered, valueAt, signAt, placed}
-use Rattle.encoding.specs.Bytes.{bytesOf, encoded}
+use Rattle.challenge.specs.Draw.{draw, kept, withValue, valueAt, signAt, placed}
+use Rattle.encoding.specs.Bytes.{bigEndian, encoded}
 use Rattle.encoding.specs.Encoding.{signatureBytes}
 use Rattle.scheme.specs.Scheme.{equal, isDrawn}
 use Rattle.signer.specs.Signer.{signatureOf}
@@ -79,5 +80,5 @@ holds (reaches f c y z inside) = equal (point f c y) z && sameBool (within (setO
 holds (encodes c z xs) = sameNumbers (signatureOf 0 (record { c = c; z = z })) xs
 
 pub worked-cases : T (all holds cases)
-unfolding holds cases pool poly minus sameNumbers sameBool drawRefusal setOf sets evaluations evaluation draw kept offered valueAt signAt placed signatureOf signatureBytes encoded bytesOf
+unfolding holds cases pool poly minus sameNumbers sameBool drawRefusal setOf sets evaluations evaluation draw kept withValue valueAt signAt placed signatureOf signatureBytes encoded bigEndian
 worked-cases = tt

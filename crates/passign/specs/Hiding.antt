@@ -11,10 +11,11 @@ use Prim.Native.Nat.{ℕ}
 use lib.Dec.{T}
 use lib.IntN.{ℤ}
 use lib.ListN.{length}
+use Rattle.algebra.specs.Integer.{within}
 use Rattle.parameters.specs.declared.Params.{Params}
 use Rattle.parameters.specs.Sets.{setOf}
 use Rattle.parameters.specs.Sound.{Sound, Fitting}
-use Rattle.polynomial.specs.Polynomial.{sub, star, within, weight}
+use Rattle.polynomial.specs.Polynomial.{sub, star, weight}
 use Rattle.polynomial.specs.Evaluation.{evaluations}
 use Rattle.challenge.specs.Draw.{drawChallenge}
 use Rattle.encoding.specs.Encoding.{secretKeySize, isKey, keyOf, publicKey}

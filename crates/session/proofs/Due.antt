@@ -53,7 +53,7 @@ module _ (s : Session) (file : List ℕ) (at : ℕ) where
 
   -- the command played, or the end with a refusal
   abbrev dueBy : ℕ → Step
-  dueBy n = pick (eqb n 0) playedDue (endsAt s at (byteDue s file at) n)
+  dueBy n = pick (eqb n 0) playedDue (endsAt s (byteDue s file at) n)
 
   -- a chain of three refusals, by the number of the first
   first : (a b c : Bool)
@@ -73,7 +73,7 @@ module _ (s : Session) (file : List ℕ) (at : ℕ) where
         (λ e. rw (e, ← chosen) (first (not (isKnown b)) (needsSet b && lacksSet (s .held .set)) (ltb (length file) (at + 1 + sizeDue s file at))))
 
     -- a refusal is due
-    pub refuses : (refusalDue file at set ≡ 0 → ⊥) → commandStep s file at ≡ endsAt s at (getD file at 0) (refusalDue file at set)
+    pub refuses : (refusalDue file at set ≡ 0 → ⊥) → commandStep s file at ≡ endsAt s (getD file at 0) (refusalDue file at set)
     refuses n = rw (by-due, ne-eqb (refusalDue file at set) 0 n)
 
     -- none is due: 00, or a command that goes on

@@ -10,8 +10,8 @@ use Rattle.session_rules.specs.Plays.{signings, HidesNone}
 use Rattle.session_rules.proofs.HidingOfSessions.{signings-accepted, hiding-of-sessions, hiding-of-sessions-exactly, no-signing}
 use Rattle.session.specs.declared.Session as code
 use Rattle.session.specs.Session.{sessionOf}
-use Rattle.session.specs.Turns.{Turn, Turns, turnEvents}
-use Rattle.session.proofs.TurnsByRules.{lentBy, turns-by-rules}
+use Rattle.session.specs.Turns.{Turn, Turns, lentBy, turnEvents}
+use Rattle.session.proofs.TurnsByRules.{turns-by-rules}
 
 -- any turns from a session just opened, each as the contract of `play` allows
 module _ (s : code.Session) (e : sessionOf s ≡ opened) (file : List ℕ) (ts : List Turn) (h : Turns s file ts) where

@@ -3,18 +3,14 @@
 -- `ordinals-count`) holds of the code's plays and sessions.
 -- Assumes nothing.
 use mathlib.Core.Path.{_≡_, refl, ap, ap₂, _∙_}
-use mathlib.Core.List.{List, [], _∷_, _++_, map}
+use mathlib.Core.List.{List, [], _∷_, _++_}
 use Prim.Native.Nat.{ℕ}
 use Rattle.session_rules.specs.Play.{Session, Outcome, opened}
 use Rattle.session_rules.specs.Plays.{Event, eventOf, eventsFrom, events}
-use Rattle.session_rules.proofs.After.{after}
+use Rattle.session_rules.specs.After.{after}
 use Rattle.session.specs.declared.Session as code
 use Rattle.session.specs.Session.{sessionOf}
-use Rattle.session.specs.Turns.{Turn, Turns, lastOf, turnEvents}
-
--- the row buffers that the turns were lent
-abbrev pub lentBy : List Turn → List (List ℕ)
-lentBy ts = map (λ (t : Turn). t .lent) ts
+use Rattle.session.specs.Turns.{Turn, Turns, lentBy, lastOf, turnEvents}
 
 by-rules : (s : code.Session) (file : List ℕ) (ts : List Turn) → Turns s file ts → turnEvents s file ts ≡ eventsFrom (sessionOf s) file (lentBy ts)
 unfolding turnEvents eventsFrom

@@ -3,12 +3,12 @@
 use mathlib.Core.Path.{_≡_}
 use mathlib.Core.Bool.{not, _&&_}
 use mathlib.Core.List.{List}
-use Prim.Native.Nat.{ℕ, _+_}
+use Prim.Native.Nat.{ℕ, _+_, _-_}
 use lib.Dec.{ltb, leb}
 use lib.ListN.{length, getD}
 use Rattle.algebra.specs.Choice.{pick}
 use Rattle.session_rules.specs.Commands.{isKnown, needsSet, operandSize}
-use Rattle.session_rules.specs.Play.{Session, Step, Answer, row, fault, over, Outcome, lacksSet, rowOf}
+use Rattle.session_rules.specs.Play.{Session, Step, PlayAnswer, row, fault, over, Outcome, lacksSet, rowOf}
 use Rattle.session_rules.specs.Rows.{atFront}
 use Rattle.session_state.specs.State.{setHeld, heldOf}
 use Rattle.session.specs.declared.Session as code
@@ -17,17 +17,22 @@ use Rattle.session.specs.declared.Answer.the-variants as answers
 use Rattle.session.specs.declared.Played.{Played}
 use Rattle.session.specs.declared.step.Taken.{Taken}
 
-unfoldable pub sessionOf : code.Session → Session
-sessionOf s = record { started = s .started; ended = s .ended; place = s .place; rows = s .rows; held = heldOf (s .held) }
+-- the row count: each row is of a byte of the file at least, behind the tag, so there are fewer rows than bytes passed; a count of more, which no play
+-- gives, means as many as there can be. So every value has a meaning, and the next ordinal is never too large
+abbrev pub rowsOf : ℕ → ℕ → ℕ
+rowsOf rows place = pick (ltb rows place) rows (place - 1)
 
-abbrev pub answerOf : answer.Answer → Answer
-answerOf (answers.Row n) = row n
-answerOf answers.Fault = fault
-answerOf answers.Ended = over
+unfoldable pub sessionOf : code.Session → Session
+sessionOf s = record { ended = s .ended; place = s .place; rows = rowsOf (s .rows) (s .place); held = heldOf (s .held) }
+
+abbrev pub playAnswerOf : answer.Answer → PlayAnswer
+playAnswerOf (answers.Row n) = row n
+playAnswerOf answers.Fault = fault
+playAnswerOf answers.Ended = over
 
 -- all that a play gives: the session after it, the answer, and the row buffer
 abbrev pub outcomeOf : Played → List ℕ → Outcome
-outcomeOf r buffer = record { session = sessionOf (r .session); answer = answerOf (r .answer); buffer = buffer }
+outcomeOf r buffer = record { session = sessionOf (r .session); answer = playAnswerOf (r .answer); buffer = buffer }
 
 -- the play `t` was taken: session and number are its own, and its row stands at the front of the row buffer
 pub record Took (t : Step) (r : Taken) (old new : List ℕ) : Type 0 where

@@ -1,7 +1,7 @@
 -- A list of plays of the code: each is handed the session that the last returned, and each meets the contract of `play`.
 -- Assumes nothing.
 use mathlib.Core.Path.{_≡_}
-use mathlib.Core.List.{List, [], _∷_, _++_}
+use mathlib.Core.List.{List, [], _∷_, _++_, map}
 use Prim.Native.Nat.{ℕ}
 use Rattle.session_rules.specs.Play.{play}
 use Rattle.session_rules.specs.Plays.{Event, eventOf}
@@ -19,6 +19,10 @@ pub record Turn : Type 0 where
 abbrev pub Turns : code.Session → List ℕ → List Turn → Type 0
 Turns s file [] = Unit {0}
 Turns s file (t ∷ ts) = (outcomeOf (t .gave) (t .left) ≡ play (sessionOf s) file (t .lent)) × Turns (t .gave .session) file ts
+
+-- the row buffers that the turns were lent
+abbrev pub lentBy : List Turn → List (List ℕ)
+lentBy ts = map (λ (t : Turn). t .lent) ts
 
 -- the session that the last turn returned
 unfoldable pub lastOf : code.Session → List Turn → code.Session

@@ -8,10 +8,9 @@ use session_state::only_set;
 mod step;
 
 pub struct Session {
-    started: bool,
     ended: bool,
     place: usize,
-    rows: u32,
+    rows: usize,
     held: Held,
 }
 
@@ -32,7 +31,6 @@ pub fn open() -> Session
     ensures { λ r. ⌜ sessionOf r ≡ rules.opened ⌝ }
 {
     Session {
-        started: false,
         ended: false,
         place: 0,
         rows: 0,

@@ -1,17 +1,16 @@
 // One play of a session that has not ended: the tests in the document's order, the session after it, and its row.
 ghost use mathlib.Core.Path.{_≡_};
 ghost use mathlib.Core.Bool.{false};
-ghost use Prim.Native.Nat.{_<_};
+ghost use Prim.Native.Nat.{_+_, _<_, _≤_};
 ghost use lib.Dec.{eqb};
 ghost use lib.ListN.{length, getD};
 ghost use Rattle.algebra.specs.Choice.{pick};
 ghost use Rattle.session_rules.specs.Play as rules;
-ghost use Rattle.session.specs.Session.{sessionOf, refusalDue, Took};
+ghost use Rattle.session.specs.Session.{rowsOf, sessionOf, refusalDue, Took};
 use crate::Session;
 use session_commands::running::operand_size;
 use session_commands::running::run;
 use session_rows::write_plain;
-use std::num::wrapping_add_u32;
 
 // The session after a play, and the row's number.
 pub struct Taken {
@@ -19,14 +18,13 @@ pub struct Taken {
     pub number: u32,
 }
 
-// A row that ends the session before the first command.
-fn end_before(s: Session, number: u32, rows: &mut [u8]) -> Taken
+// A row that ends the session.
+fn end_with(s: Session, ordinal: usize, byte: u8, number: u32, rows: &mut [u8]) -> Taken
     requires { ⌜ length (now rows) ≡ 16384 ⌝ }
-    ensures { λ r. ⌜ Took (rules.endsBefore (sessionOf s) number) r (now (rows .entry)) (now (rows .exit)) ⌝ }
+    ensures { λ r. ⌜ Took (rules.endsWith (sessionOf s) ordinal byte number) r (now (rows .entry)) (now (rows .exit)) ⌝ }
 {
-    write_plain(rows, 0, 0, number);
+    write_plain(rows, ordinal, byte, number);
     let mut next = s;
-    next.started = true;
     next.ended = true;
     Taken {
         session: next,
@@ -34,22 +32,14 @@ fn end_before(s: Session, number: u32, rows: &mut [u8]) -> Taken
     }
 }
 
-// The row of a command that ends the session.
-fn end_at(s: Session, place: usize, byte: u8, number: u32, rows: &mut [u8]) -> Taken
-    requires { ⌜ length (now rows) ≡ 16384 ⌝ }
-    ensures { λ r. ⌜ Took (rules.endsAt (sessionOf s) place byte number) r (now (rows .entry)) (now (rows .exit)) ⌝ }
+// The ordinal of the next row, from a session's row count and place.
+fn next_ordinal(rows: usize, place: usize) -> usize
+    ensures { λ r. ⌜ r ≡ rowsOf rows place + 1 ⌝ }
 {
-    let ordinal = wrapping_add_u32(s.rows, 1);
-    write_plain(rows, ordinal, byte, number);
-    let mut next = s;
-    next.started = true;
-    next.ended = true;
-    next.place = place;
-    next.rows = ordinal;
-    Taken {
-        session: next,
-        number: number,
+    if rows < place {
+        return rows + 1;
     }
+    if 0 < place { place } else { 1 }
 }
 
 // The byte at a place, 0 behind the file's end.
@@ -89,22 +79,22 @@ fn end_number(file: &[u8], next: usize) -> u32
 }
 
 // A command that goes on behind its operand.
-fn go_on(s: Session, file: &[u8], at: usize, rows: &mut [u8]) -> Taken
+fn go_on(s: Session, file: &[u8], at: usize, ordinal: usize, rows: &mut [u8]) -> Taken
     requires { ⌜ length (now rows) ≡ 16384 ⌝ }
     requires { ⌜ s .ended ≡ false ⌝ }
     requires { ⌜ refusalDue (now file) at (s .held .set) ≡ 0 ⌝ }
     requires { ⌜ 0 < getD (now file) at 0 ⌝ }
+    requires { ⌜ ordinal ≡ rowsOf (s .rows) (s .place) + 1 ⌝ }
+    requires { ⌜ ordinal ≤ at ⌝ }
     ensures { λ r. ⌜ Took (rules.commandStep (sessionOf s) (now (file .entry)) at) r (now (rows .entry)) (now (rows .exit)) ⌝ }
 {
     let byte = file[at];
-    let ordinal = wrapping_add_u32(s.rows, 1);
     let start = at + 1;
     let end = start + operand_size(s.held.set, byte);
     let held = s.held;
     let done = run(held, byte, &file[start..end], ordinal, rows);
     let next_held = done.held;
     let mut next = s;
-    next.started = true;
     next.place = end;
     next.rows = ordinal;
     next.held = next_held;
@@ -114,23 +104,25 @@ fn go_on(s: Session, file: &[u8], at: usize, rows: &mut [u8]) -> Taken
     }
 }
 
-// The command due at a place.
+// The command due at a place behind the tag.
 fn command_step(s: Session, file: &[u8], at: usize, rows: &mut [u8]) -> Taken
     requires { ⌜ length (now rows) ≡ 16384 ⌝ }
     requires { ⌜ s .ended ≡ false ⌝ }
+    requires { ⌜ 0 < at ⌝ }
+    requires { ⌜ s .place ≤ at ⌝ }
     ensures { λ r. ⌜ Took (rules.commandStep (sessionOf s) (now (file .entry)) at) r (now (rows .entry)) (now (rows .exit)) ⌝ }
 {
     let byte = byte_at(file, at);
+    let ordinal = next_ordinal(s.rows, s.place);
     let refusal = refusal_due(file, at, s.held.set);
     if refusal != 0 {
-        return end_at(s, at, byte, refusal, rows);
+        return end_with(s, ordinal, byte, refusal, rows);
     }
     if byte == 0 {
-        let next = at + 1;
-        let number = end_number(file, next);
-        return end_at(s, next, 0, number, rows);
+        let number = end_number(file, at + 1);
+        return end_with(s, ordinal, 0, number, rows);
     }
-    go_on(s, file, at, rows)
+    go_on(s, file, at, ordinal, rows)
 }
 
 // Whether the file opens with the tag.
@@ -144,20 +136,20 @@ fn is_tagged(file: &[u8]) -> bool
     (file[0] == tag[0]) & ((file[1] == tag[1]) & ((file[2] == tag[2]) & (file[3] == tag[3])))
 }
 
-// The first play tests the length and the tag, and then plays the first command.
+// The first play, at place 0, tests the length and the tag, and then plays the first command.
 pub fn step(s: Session, file: &[u8], rows: &mut [u8]) -> Taken
     requires { ⌜ length (now rows) ≡ 16384 ⌝ }
     requires { ⌜ s .ended ≡ false ⌝ }
     ensures { λ r. ⌜ Took (rules.step (sessionOf s) (now (file .entry))) r (now (rows .entry)) (now (rows .exit)) ⌝ }
 {
-    if s.started {
+    if 0 < s.place {
         return command_step(s, file, s.place, rows);
     }
     if 65536 < file.len() {
-        return end_before(s, 1, rows);
+        return end_with(s, 0, 0, 1, rows);
     }
     if !is_tagged(file) {
-        return end_before(s, 15, rows);
+        return end_with(s, 0, 0, 15, rows);
     }
     command_step(s, file, 4, rows)
 }

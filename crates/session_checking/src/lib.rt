@@ -62,7 +62,7 @@ fn judge(p: Params, h: Held, operand: &[u8]) -> Verdict
 }
 
 // 07, with its row. Whatever it says, what is held stays.
-pub fn check_held(p: Params, h: Held, operand: &[u8], ordinal: u32, rows: &mut [u8]) -> Done
+pub fn check_held(p: Params, h: Held, operand: &[u8], ordinal: usize, rows: &mut [u8]) -> Done
     requires { ⌜ Fitting p ⌝ }
     requires { ⌜ length (now operand) ≡ 2 * p .b + 2 * p .n ⌝ }
     requires { ⌜ length (now rows) ≡ 16384 ⌝ }

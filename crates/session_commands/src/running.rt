@@ -74,7 +74,7 @@ fn load(p: Params, h: Held, byte: u8, operand: &[u8]) -> Done
 }
 
 // 02 to 08 in a set, with its row.
-fn run_in(p: Params, h: Held, byte: u8, operand: &[u8], ordinal: u32, rows: &mut [u8]) -> Done
+fn run_in(p: Params, h: Held, byte: u8, operand: &[u8], ordinal: usize, rows: &mut [u8]) -> Done
     requires { ⌜ InSet p (h .set) ⌝ }
     requires { ⌜ (1 < byte) × (byte < 9) ⌝ }
     requires { ⌜ length (now operand) ≡ operandSizeIn p byte ⌝ }
@@ -97,7 +97,7 @@ fn run_in(p: Params, h: Held, byte: u8, operand: &[u8], ordinal: u32, rows: &mut
 }
 
 // Runs a command, 01 to 08, and writes its row. 02 to 08 ask for a set.
-pub fn run(h: Held, byte: u8, operand: &[u8], ordinal: u32, rows: &mut [u8]) -> Done
+pub fn run(h: Held, byte: u8, operand: &[u8], ordinal: usize, rows: &mut [u8]) -> Done
     requires { ⌜ (0 < byte) × (byte < 9) ⌝ }
     requires { ⌜ needsSet byte && lacksSet (setHeld (h .set)) ≡ false ⌝ }
     requires { ⌜ length (now operand) ≡ operandSize (setHeld (h .set)) byte ⌝ }

@@ -65,7 +65,7 @@ fn with_key(p: Params, h: Held, operand: &[u8]) -> Held
 }
 
 // 03, with its row.
-pub fn load_key(p: Params, h: Held, operand: &[u8], ordinal: u32, rows: &mut [u8]) -> Done
+pub fn load_key(p: Params, h: Held, operand: &[u8], ordinal: usize, rows: &mut [u8]) -> Done
     requires { ⌜ InSet p (h .set) ⌝ }
     requires { ⌜ length (now operand) ≡ p .n ⌝ }
     requires { ⌜ length (now rows) ≡ 16384 ⌝ }

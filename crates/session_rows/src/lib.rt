@@ -20,7 +20,7 @@ fn put(rows: &mut [u8], at: usize, byte: u8) -> usize
 }
 
 // A number in decimal, at most `more` + 1 digits.
-fn put_digits(rows: &mut [u8], at: usize, n: u32, more: usize) -> usize
+fn put_digits(rows: &mut [u8], at: usize, n: usize, more: usize) -> usize
     requires { ⌜ at + more < length (now rows) ⌝ }
     ensures text { λ r. ⌜ Wrote (now (rows .entry)) at (digits more n) (now (rows .exit)) r ⌝ }
     ensures end { λ r. ⌜ r ≤ at + more + 1 ⌝ }
@@ -43,7 +43,7 @@ fn put_number(rows: &mut [u8], at: usize, n: u32) -> usize
     ensures end { λ r. ⌜ r ≤ at + 11 ⌝ }
 {
     let next = put(rows, at, SPACE);
-    put_digits(rows, next, n, 9)
+    put_digits(rows, next, n as usize, 9)
 }
 
 fn put_numbers(rows: &mut [u8], at: usize, numbers: &[u32]) -> usize
@@ -92,20 +92,20 @@ fn put_hex(rows: &mut [u8], at: usize, bytes: &[u8]) -> usize
     next
 }
 
-// What every row starts with: its ordinal, the command's byte and the number.
-fn put_head(rows: &mut [u8], ordinal: u32, byte: u8, number: u32) -> usize
-    requires { ⌜ 24 ≤ length (now rows) ⌝ }
+// What every row starts with: its ordinal (a usize has at most twenty digits), the command's byte and the number.
+fn put_head(rows: &mut [u8], ordinal: usize, byte: u8, number: u32) -> usize
+    requires { ⌜ 34 ≤ length (now rows) ⌝ }
     ensures text { λ r. ⌜ Wrote (now (rows .entry)) 0 (rowHead ordinal byte number) (now (rows .exit)) r ⌝ }
-    ensures end { λ r. ⌜ r ≤ 24 ⌝ }
+    ensures end { λ r. ⌜ r ≤ 34 ⌝ }
 {
-    let mut next = put_digits(rows, 0, ordinal, 9);
+    let mut next = put_digits(rows, 0, ordinal, 19);
     next = put(rows, next, SPACE);
     next = put_hex_byte(rows, next, byte);
     put_number(rows, next, number)
 }
 
 // A row that adds nothing.
-pub fn write_plain(rows: &mut [u8], ordinal: u32, byte: u8, number: u32)
+pub fn write_plain(rows: &mut [u8], ordinal: usize, byte: u8, number: u32)
     requires { ⌜ length (now rows) ≡ 16384 ⌝ }
     ensures { λ _. ⌜ now (rows .exit) ≡ atFront (rowText ordinal byte number nothing) (now (rows .entry)) ⌝ }
 {
@@ -114,7 +114,7 @@ pub fn write_plain(rows: &mut [u8], ordinal: u32, byte: u8, number: u32)
 }
 
 // A row that adds a list of numbers.
-pub fn write_values(rows: &mut [u8], ordinal: u32, byte: u8, numbers: &[u32])
+pub fn write_values(rows: &mut [u8], ordinal: usize, byte: u8, numbers: &[u32])
     requires { ⌜ length (now rows) ≡ 16384 ⌝ }
     requires { ⌜ length (now numbers) ≤ 1152 ⌝ }
     ensures { λ _. ⌜ now (rows .exit) ≡ atFront (rowText ordinal byte 0 (values (now (numbers .entry)))) (now (rows .entry)) ⌝ }
@@ -125,7 +125,7 @@ pub fn write_values(rows: &mut [u8], ordinal: u32, byte: u8, numbers: &[u32])
 }
 
 // A row that adds how many masks were passed over, and the signature.
-pub fn write_signed(rows: &mut [u8], ordinal: u32, byte: u8, passed: u8, signature: &[u8])
+pub fn write_signed(rows: &mut [u8], ordinal: usize, byte: u8, passed: u8, signature: &[u8])
     requires { ⌜ length (now rows) ≡ 16384 ⌝ }
     requires { ⌜ length (now signature) ≤ 2435 ⌝ }
     ensures { λ _. ⌜ now (rows .exit) ≡ atFront (rowText ordinal byte 0 (signed passed (now (signature .entry)))) (now (rows .entry)) ⌝ }
@@ -138,7 +138,7 @@ pub fn write_signed(rows: &mut [u8], ordinal: u32, byte: u8, passed: u8, signatu
 }
 
 // A row that adds a verdict.
-pub fn write_judged(rows: &mut [u8], ordinal: u32, byte: u8, verdict: u8)
+pub fn write_judged(rows: &mut [u8], ordinal: usize, byte: u8, verdict: u8)
     requires { ⌜ length (now rows) ≡ 16384 ⌝ }
     ensures { λ _. ⌜ now (rows .exit) ≡ atFront (rowText ordinal byte 0 (judged verdict)) (now (rows .entry)) ⌝ }
 {

@@ -1,8 +1,8 @@
--- Right row buffers, one play by its three cases, and the session after a list of plays.
+-- One play by its three cases: a wrong row buffer, after the end, and a row.
 -- Assumes nothing.
 use mathlib.Core.Path.{_≡_}
-use mathlib.Core.Bool.{Bool, true, false, not}
-use mathlib.Core.List.{List, [], _∷_}
+use mathlib.Core.Bool.{true, false, not}
+use mathlib.Core.List.{List}
 use Prim.Native.Nat.{ℕ}
 use native.Mathlib.Omega.{arith}
 use lib.Dec.{eqb}
@@ -10,30 +10,16 @@ use lib.ListN.{length}
 use borrow.Author.Tests.{eqb-true, eqb-false, not-true, not-false}
 use Rattle.algebra.proofs.Test.{pick-by}
 use Rattle.session_rules.specs.Rows.{atFront}
-use Rattle.session_rules.specs.Play.{Session, step, row, fault, over, Outcome, rowOf, play}
-
--- a row buffer of the right length
-abbrev pub isRight : List ℕ → Bool
-isRight buffer = eqb (length buffer) 16384
-
--- the session after plays of one file, each lent a row buffer
-unfoldable pub after : Session → List ℕ → List (List ℕ) → Session
-after s file [] = s
-after s file (buffer ∷ buffers) = after (play s file buffer .session) file buffers
+use Rattle.session_rules.specs.Play.{Session, step, row, Outcome, rowOf, play}
+use Rattle.session_rules.specs.Refusals.{faulty, late}
 
 module _ (s : Session) (file buffer : List ℕ) where
-  -- the outcome of a play with a wrong row buffer, of one after the end, and of one that writes a row
-  abbrev pub faulty : Outcome
-  faulty = record { session = s; answer = fault; buffer = buffer }
-
-  abbrev pub late : Outcome
-  late = record { session = s; answer = over; buffer = buffer }
-
+  -- the outcome of a play that writes a row
   abbrev pub written : Outcome
   written = record { session = step s file .session; answer = row (step s file .number); buffer = atFront (rowOf (step s file)) buffer }
 
   -- a claim about a play, by its three cases
-  pub play-by : (P : Outcome → Type 0) → ((length buffer ≡ 16384 → ⊥) → P faulty) → (s .ended ≡ true → P late)
+  pub play-by : (P : Outcome → Type 0) → ((length buffer ≡ 16384 → ⊥) → P (faulty s buffer)) → (s .ended ≡ true → P (late s buffer))
       → (length buffer ≡ 16384 → s .ended ≡ false → P written) → P (play s file buffer)
   unfolding play
   play-by P wrong ended right =

@@ -10,16 +10,16 @@ use lib.ListN.{length}
 use Rattle.algebra.specs.All.{all}
 use Rattle.algebra.proofs.Test.{and-left, and-right, by-test}
 use Rattle.session_rules.specs.Play.{Session, Outcome, play}
-use Rattle.session_rules.proofs.After.{isRight, after, play-by}
-use Rattle.session_rules.proofs.Reaching.{Reachable, once-more, reached, reached-step}
+use Rattle.session_rules.specs.After.{isRight, after}
+use Rattle.session_rules.proofs.After.{play-by}
+use Rattle.session_rules.proofs.Moving.{moves}
 
 -- where a play with a right buffer does not end the session, the place moves forward inside the file
-pub moves-on : {s : Session} → Reachable s → (file buffer : List ℕ) → length buffer ≡ 16384 → play s file buffer .session .ended ≡ false
+pub moves-on : (s : Session) (file buffer : List ℕ) → length buffer ≡ 16384 → play s file buffer .session .ended ≡ false
     → (s .place < play s file buffer .session .place) × (play s file buffer .session .place ≤ length file)
-moves-on {s} r file buffer right =
-    let (t, (av, w)) = reached r in
+moves-on s file buffer right =
     play-by s file buffer (λ (o : Outcome). o .session .ended ≡ false → (s .place < o .session .place) × (o .session .place ≤ length file))
-    (λ h e. absurd (h right)) (λ h e. absurd (true≢false (sym h ∙ e))) (λ h g e. reached-step t av s w file .moves e)
+    (λ h e. absurd (h right)) (λ h e. absurd (true≢false (sym h ∙ e))) (λ h g e. moves s file .forward e)
 
 -- the end stays
 pub stays-ended : (s : Session) (file : List ℕ) (buffers : List (List ℕ)) → s .ended ≡ true → after s file buffers .ended ≡ true
@@ -30,13 +30,13 @@ stays-ended s file (buffer ∷ buffers) e =
     (play-by s file buffer (λ (o : Outcome). o .session .ended ≡ true) (λ h. e) (λ h. e) (λ h g. absurd (true≢false (sym e ∙ g))))
 
 -- a byte of the file for each play, and one play more
-pub ends-from : {s : Session} → Reachable s → (file : List ℕ) (buffers : List (List ℕ)) → T (all isRight buffers) → s .place ≤ length file
+pub ends-from : (s : Session) (file : List ℕ) (buffers : List (List ℕ)) → T (all isRight buffers) → s .place ≤ length file
     → length file + 1 ≤ length buffers + s .place → after s file buffers .ended ≡ true
 unfolding after
-ends-from r file [] right inside enough = absurd (omega arith)
-ends-from {s} r file (buffer ∷ buffers) right inside enough =
+ends-from s file [] right inside enough = absurd (omega arith)
+ends-from s file (buffer ∷ buffers) right inside enough =
     let next = play s file buffer .session in
     by-test (next .ended) (stays-ended next file buffers)
     (λ e.
-    let (forward, within) = moves-on r file buffer (eqb→eq (length buffer) 16384 (and-left (isRight buffer) (all isRight buffers) right)) e in
-    ends-from (once-more r file buffer) file buffers (and-right (isRight buffer) (all isRight buffers) right) within (omega arith))
+    let (forward, within) = moves-on s file buffer (eqb→eq (length buffer) 16384 (and-left (isRight buffer) (all isRight buffers) right)) e in
+    ends-from next file buffers (and-right (isRight buffer) (all isRight buffers) right) within (omega arith))

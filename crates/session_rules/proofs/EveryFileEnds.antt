@@ -1,5 +1,5 @@
 -- Every file is taken to its end: from a session just opened, played with row buffers of 16,384 bytes, the session has ended after at most as many plays as
--- the file has bytes and one more. Each play, whatever session plays led to and whatever file it is lent, ends the session or moves its place forward.
+-- the file has bytes and one more. Each play, whatever the session and the file, ends the session or moves its place forward.
 -- Assumes nothing.
 use mathlib.Core.Path.{_≡_}
 use mathlib.Core.Bool.{true}
@@ -12,14 +12,13 @@ use lib.ListN.{length}
 use Rattle.algebra.specs.All.{all}
 use Rattle.algebra.proofs.Test.{by-test}
 use Rattle.session_rules.specs.Play.{Session, opened, play}
-use Rattle.session_rules.proofs.After.{isRight, after}
-use Rattle.session_rules.proofs.Reaching.{Reachable, just-opened}
+use Rattle.session_rules.specs.After.{isRight, after}
 use Rattle.session_rules.proofs.Ending.{moves-on, ends-from}
 
 pub every-file-ends : (file : List ℕ) (buffers : List (List ℕ)) → T (all isRight buffers) → length file + 1 ≤ length buffers → after opened file buffers .ended ≡ true
 unfolding opened
-every-file-ends file buffers right enough = ends-from just-opened file buffers right (omega arith) (omega arith)
+every-file-ends file buffers right enough = ends-from opened file buffers right (omega arith) (omega arith)
 
-pub each-play-moves : {s : Session} → Reachable s → (file buffer : List ℕ) → length buffer ≡ 16384
+pub each-play-moves : (s : Session) (file buffer : List ℕ) → length buffer ≡ 16384
     → (play s file buffer .session .ended ≡ true) ⊎ (s .place < play s file buffer .session .place)
-each-play-moves {s} r file buffer right = by-test (play s file buffer .session .ended) inl (λ e. inr (moves-on r file buffer right e .0))
+each-play-moves s file buffer right = by-test (play s file buffer .session .ended) inl (λ e. inr (moves-on s file buffer right e .0))

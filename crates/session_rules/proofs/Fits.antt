@@ -8,8 +8,8 @@ use lib.Dec.{T, eqb}
 use lib.IntN.{ℤ}
 use lib.ListN.{length}
 use Rattle.algebra.specs.All.{all}
+use Rattle.algebra.specs.Integer.{within}
 use Rattle.parameters.specs.declared.Params.{Params}
-use Rattle.polynomial.specs.Polynomial.{within}
 use Rattle.encoding.specs.Encoding.{isKeyByte, arePoints, areEvaluations}
 use Rattle.session_rules.specs.Held.{Chosen, Held}
 use Rattle.session_rules.specs.HeldIsRead.{Available, Holding}

@@ -9,7 +9,7 @@ use Prim.Native.Nat.{ℕ}
 use Rattle.session_rules.specs.Play.{opened}
 use Rattle.session_rules.specs.Plays.{events, noMaterial}
 use Rattle.session_rules.specs.HeldIsRead.{materialAfter, noneAvailable, availableAfter, HeldIsRead}
-use Rattle.session_rules.proofs.After.{after}
+use Rattle.session_rules.specs.After.{after}
 use Rattle.session_rules.proofs.Reaching.{reached-opened, reached-after}
 
 pub held-is-read : (file : List ℕ) (buffers : List (List ℕ))

@@ -11,6 +11,8 @@ pub mod Fits
 pub mod Library
 pub mod Signature
 pub mod Playing
+pub mod Cases
+pub mod Moving
 pub mod Stepping
 pub mod Reaching
 pub mod Ending

@@ -2,7 +2,7 @@
 -- Assumes nothing.
 use mathlib.Core.Path.{_≡_, refl, sym, ap, _∙_}
 use mathlib.Core.Bool.{Bool, true, false, not}
-use mathlib.Core.List.{List, [], _∷_, _++_}
+use mathlib.Core.List.{List, [], _∷_, _++_, flatten}
 use mathlib.Core.Option.{Option, none, some}
 use Prim.Native.Nat.{ℕ, zero, suc, _*_, _%_, _+_, _<_, _≤_}
 use native.Mathlib.Nat.{mul-mod-left, suc-mul, zero-mul, mul-le-mul-right}
@@ -16,16 +16,15 @@ use Rattle.algebra.specs.Choice.{pick}
 use Rattle.algebra.specs.All.{all}
 use Rattle.algebra.proofs.All.{all-append, all-from, all-at}
 use Rattle.algebra.proofs.Test.{and-left, and-right, and-intro, holds-true, true-holds}
+use Rattle.algebra.specs.Integer.{within}
 use Rattle.parameters.specs.declared.Params.{Params}
 use Rattle.parameters.specs.Sets.{setOf}
 use Rattle.parameters.specs.Sound.{Fitting}
 use Rattle.parameters.proofs.Sound.{set-fitting}
-use Rattle.polynomial.specs.Polynomial.{within}
 use Rattle.challenge.specs.Draw.{drawChallenge}
-use Rattle.encoding.specs.Bytes.{joined}
 use Rattle.encoding.specs.Challenge.{areEntries}
 use Rattle.encoding.specs.Encoding.{isKey, keyOf, publicKeySize, publicKey, PublicKeyRange, signatureSize, entriesRead}
-use Rattle.encoding.proofs.Testing.{rising-below}
+use Rattle.encoding.proofs.Testing.{increasing-below}
 use Rattle.encoding.proofs.OneEncoding.{public-key-length, points-read-back, evaluations-read-back}
 use Rattle.scheme.specs.Scheme.{Signed}
 use Rattle.signer.specs.Signer.{signedBy}
@@ -51,36 +50,36 @@ module _ (p : Params) where
         (and-right (eqb (length y) (p .n)) (within (p .k) y) m, and-right (isMask p y) (all (isMask p) ys) t),
       )
 
-  joined-length : (ys : List (List ℤ)) → T (all (isMask p) ys) → length (joined ys) ≡ length ys * p .n
+  joined-length : (ys : List (List ℤ)) → T (all (isMask p) ys) → length (flatten ys) ≡ length ys * p .n
   joined-length [] t = sym (zero-mul (p .n))
   joined-length (y ∷ ys) t =
       let (size, (small, rest)) = first-mask y ys t in
-      length-append y (joined ys) ∙ omega (arith, size, joined-length ys rest, suc-mul (length ys) (p .n))
+      length-append y (flatten ys) ∙ omega (arith, size, joined-length ys rest, suc-mul (length ys) (p .n))
 
-  joined-within : (ys : List (List ℤ)) → T (all (isMask p) ys) → T (within (p .k) (joined ys))
+  joined-within : (ys : List (List ℤ)) → T (all (isMask p) ys) → T (within (p .k) (flatten ys))
   joined-within [] t = tt
   joined-within (y ∷ ys) t =
       let (size, (small, rest)) = first-mask y ys t in
-      rw (all-append (λ (a : ℤ). leb (natAbs a) (p .k)) y (joined ys)) (and-intro (within (p .k) y) (within (p .k) (joined ys)) small (joined-within ys rest))
+      rw (all-append (λ (a : ℤ). leb (natAbs a) (p .k)) y (flatten ys)) (and-intro (within (p .k) y) (within (p .k) (flatten ys)) small (joined-within ys rest))
 
   -- mask number i
-  pub joined-at : (ys : List (List ℤ)) (i : ℕ) → T (all (isMask p) ys) → i < length ys → maskAt p (joined ys) i ≡ getD ys i []
+  pub joined-at : (ys : List (List ℤ)) (i : ℕ) → T (all (isMask p) ys) → i < length ys → maskAt p (flatten ys) i ≡ getD ys i []
   joined-at [] i t h = absurd (omega arith)
-  joined-at (y ∷ ys) zero t h = rw (zero-mul (p .n)) (take-at y (joined ys) (p .n) (first-mask y ys t .0))
+  joined-at (y ∷ ys) zero t h = rw (zero-mul (p .n)) (take-at y (flatten ys) (p .n) (first-mask y ys t .0))
   joined-at (y ∷ ys) (suc i) t h =
       let (size, (small, rest)) = first-mask y ys t in
       let e : suc i * p .n ≡ p .n + i * p .n = omega (arith, suc-mul i (p .n)) in
-      ap (λ (k : ℕ). take (p .n) (drop k (y ++ joined ys))) e
-      ∙ ap (take (p .n)) (sym (drop-drop (i * p .n) (p .n) (y ++ joined ys)) ∙ ap (drop (i * p .n)) (drop-at y (joined ys) (p .n) size))
+      ap (λ (k : ℕ). take (p .n) (drop k (y ++ flatten ys))) e
+      ∙ ap (take (p .n)) (sym (drop-drop (i * p .n) (p .n) (y ++ flatten ys)) ∙ ap (drop (i * p .n)) (drop-at y (flatten ys) (p .n) size))
       ∙ joined-at ys i rest (omega arith)
 
-  joined-masks : (ys : List (List ℤ)) → T (all (isMask p) ys) → length ys ≤ 8 → areMasks p (joined ys) ≡ true
+  joined-masks : (ys : List (List ℤ)) → T (all (isMask p) ys) → length ys ≤ 8 → areMasks p (flatten ys) ≡ true
   joined-masks ys t few =
       let l = joined-length ys t in
-      holds-true (areMasks p (joined ys))
-      (and-intro (eqb (length (joined ys) % p .n) 0) (leb (length (joined ys)) (8 * p .n))
-      (true-holds (eq-eqb (length (joined ys) % p .n) 0 (ap (λ (k : ℕ). k % p .n) l ∙ mul-mod-left (length ys) (p .n))))
-      (true-holds (le-leb (length (joined ys)) (8 * p .n) (omega (arith, l, mul-le-mul-right (p .n) few)))))
+      holds-true (areMasks p (flatten ys))
+      (and-intro (eqb (length (flatten ys) % p .n) 0) (leb (length (flatten ys)) (8 * p .n))
+      (true-holds (eq-eqb (length (flatten ys) % p .n) 0 (ap (λ (k : ℕ). k % p .n) l ∙ mul-mod-left (length ys) (p .n))))
+      (true-holds (le-leb (length (flatten ys)) (8 * p .n) (omega (arith, l, mul-le-mul-right (p .n) few)))))
 
 -- ---- signing
 
@@ -97,22 +96,22 @@ module _ (s : ℕ) (known : s < 5) where
     known-key : Known (s ∷ key) message
     known-key = record { message-size = omega arith; key-some = λ e. omega arith; set = known }
 
-    allowed : signRefusalIn p (s ∷ key) points (joined masks) (length (signatureRoom p)) ≡ 0
+    allowed : signRefusalIn p (s ∷ key) points (flatten masks) (length (signatureRoom p)) ≡ 0
     unfolding isKey
-    allowed = sign-allowed p (s ∷ key) points (joined masks) (length (signatureRoom p)) .1 (record {
+    allowed = sign-allowed p (s ∷ key) points (flatten masks) (length (signatureRoom p)) .1 (record {
       key-size = omega (arith, k .size);
       points-size = j .size;
       masks-size = joined-masks p masks t few;
       room-size = length-replicate (signatureSize p) 0;
       points-rise = j .rise;
       ternary = k .bytes;
-      small = holds-true (within (p .k) (joined masks)) (joined-within p masks t);
+      small = holds-true (within (p .k) (flatten masks)) (joined-within p masks t);
     })
 
-    pub sign-refused : (n : ℕ) → signAnswer (s ∷ key) points (joined masks) message (signatureRoom p) ≡ signing.Refused n → n ≡ 9
+    pub sign-refused : (n : ℕ) → signAnswer (s ∷ key) points (flatten masks) message (signatureRoom p) ≡ signing.Refused n → n ≡ 9
     unfolding signAnswerIn
     sign-refused n e =
-        signed-or-nine (signedBy drawChallenge p (keyOf (s ∷ key)) points (joined masks) message) n (rw allowed at (sym (answer-entry (s ∷ key) points (joined masks) message (signatureRoom p) known-key) ∙ e))
+        signed-or-nine (signedBy drawChallenge p (keyOf (s ∷ key)) points (flatten masks) message) n (rw allowed at (sym (answer-entry (s ∷ key) points (flatten masks) message (signatureRoom p) known-key) ∙ e))
 
   -- ---- the check
 
@@ -126,7 +125,7 @@ module _ (s : ℕ) (known : s < 5) where
       points-length = j .size;
       points-below =
           all-from (λ (x : ℕ). ltb x 65536) points 0
-          (λ i h. lt→ltb (getD points i 0) 65536 (omega (arith, rising-below (p .n) 0 points (true-holds (j .rise)) i h, fitting .size)));
+          (λ i h. lt→ltb (getD points i 0) 65536 (omega (arith, increasing-below (p .n) 1 points (true-holds (j .rise)) i h, fitting .size)));
       evaluations-length = v .size;
       evaluations-below =
           all-from (λ (x : ℕ). ltb x 16777216) vs 0

@@ -2,8 +2,8 @@
 -- how much the command adds to its row.
 -- Assumes nothing.
 use mathlib.Core.Path.{_≡_, refl, sym, ap, _∙_}
-use mathlib.Core.Bool.{Bool, true, false, not, _&&_, _||_, true≢false}
-use mathlib.Core.List.{List, [], _∷_, _++_, map}
+use mathlib.Core.Bool.{Bool, true, false, not, _&&_, true≢false}
+use mathlib.Core.List.{List, [], _∷_, _++_, map, flatten}
 use mathlib.Core.Option.{Option, none, some}
 use Prim.Native.Nat.{ℕ, zero, suc, _+_, _*_, _≤_, _<_}
 use native.Mathlib.Omega.{arith}
@@ -15,13 +15,13 @@ use Rattle.algebra.specs.Choice.{pick}
 use Rattle.algebra.specs.All.{all}
 use Rattle.algebra.proofs.All.{all-append}
 use Rattle.algebra.proofs.Test.{and-intro, true-holds, pick-by}
+use Rattle.algebra.specs.Integer.{within}
 use Rattle.parameters.specs.declared.Params.{Params}
 use Rattle.parameters.specs.Sets.{isSet}
 use Rattle.parameters.specs.Sound.{Fitting}
 use Rattle.parameters.proofs.Sound.{set-sound, set-fitting}
-use Rattle.polynomial.specs.Polynomial.{within}
 use Rattle.polynomial.specs.Evaluation.{evaluation, evaluations}
-use Rattle.encoding.specs.Bytes.{numbers, signed16, joined}
+use Rattle.encoding.specs.Bytes.{numbers, signed16}
 use Rattle.encoding.specs.Encoding.{isKeyByte, keyCoefficient, arePoints, areEvaluations, publicKey}
 use Rattle.encoding.proofs.Inverse.{all-drop}
 use Rattle.answers.specs.declared.Signing.{Signing}
@@ -38,16 +38,13 @@ use Rattle.session_rules.specs.Rows.{decimal, hex, spaced, payloadText}
 use Rattle.session_rules.specs.Play.{lacksSet}
 use Rattle.session_rules.specs.Plays.{Event, Material, passedOver, paramsIn, withMasksIn, callWith, firstPassing, withAccepted, withCommand}
 use Rattle.session_rules.specs.HeldIsRead.{Available, availableWithAccepted, availableWith, chosenIn, Holding, absent, holds, HeldIsRead}
-use Rattle.session_rules.proofs.Fits.{isMask, Fits}
+use Rattle.session_rules.specs.Refusals.{isEnding}
+use Rattle.session_rules.proofs.Fits.{isMask, ArePoints, Fits}
 use Rattle.session_rules.proofs.Library.{sign-refused, check-refused}
 use Rattle.session_rules.proofs.Signature.{signature-size}
 use Rattle.session_rules.proofs.Text.{length-decimal, length-hex, length-numbers}
 
--- the numbers that end a session: 1, 3, 13 to 16
-abbrev pub isEnding : ℕ → Bool
-isEnding n = eqb n 1 || (eqb n 3 || (leb 13 n && leb n 16))
-
--- a command that was played; what is read from it does not look at its buffer
+-- a command that was played; what is told does not look at its buffer
 abbrev pub played : ℕ → List ℕ → ℕ → Event
 played b op n = record { byte = b; operand = op; number = n; buffer = [] }
 
@@ -185,13 +182,17 @@ module _ (t : Material) (av : Available) (h : Held) (reads : HeldIsRead t av h) 
           few = fits .few;
         }))
 
+    -- the evaluations of a key are below q
+    allowed : (points : List ℕ) → ArePoints p points → areEvaluations p (keyEvaluations p points op) ≡ true
+    allowed points j = public-key-read (set-sound (t .set) known) fitting (t .set) (map keyCoefficient op) points (j .size) (j .rise) .evaluations-allowed
+
     does-key : length op ≡ p .n → Does t av h 3 op (loadKey c h op)
     unfolding loadKey withCommand withAccepted availableWith availableWithAccepted
     does-key size =
         needing-by (Does t av h 3 op) (reads .points) (fits .points) (lacking 3)
         (λ points q j. pick-by (Does t av h 3 op) (not (all isKeyByte op)) (λ e. left 3 5 refl refl refl)
         (λ e. taken 3 (λ s. omega arith)
-        (omega (arith, length-numbers (keyEvaluations p points op), length-evaluations p points op, j .size, fitting .points, fitting .size))
+        (omega (arith, length-numbers (p .q) (keyEvaluations p points op) (omega (arith, fitting .modulus)) (true-holds (allowed points j)), length-evaluations p points op, j .size, fitting .points, fitting .size))
         (record {
           set = reads .set;
           points = reads .points;
@@ -206,7 +207,7 @@ module _ (t : Material) (av : Available) (h : Held) (reads : HeldIsRead t av h) 
           key = holds (record { size = size; bytes = not-false (all isKeyByte op) e });
           evaluations = holds (record {
             size = length-evaluations p points op ∙ j .size;
-            below = public-key-read (set-sound (t .set) known) fitting (t .set) (map keyCoefficient op) points (j .size) (j .rise) .evaluations-allowed;
+            below = allowed points j;
           });
           message = fits .message;
           masks = fits .masks;
@@ -291,10 +292,10 @@ module _ (t : Material) (av : Available) (h : Held) (reads : HeldIsRead t av h) 
         (λ points jq j. needing-by (Does t av h 6 op) (reads .key) (fits .key) (lacking 6)
         (λ key kq k. needing-by (Does t av h 6 op) (reads .message) (fits .message) (lacking 6)
         (λ message mq m.
-        let same : answerWith t ≡ signAnswer (t .set ∷ key) points (joined (h .masks)) message (signatureRoom p) =
+        let same : answerWith t ≡ signAnswer (t .set ∷ key) points (flatten (h .masks)) message (signatureRoom p) =
         rw (jq, kq, mq, reads .masks) in
-        after-answer (signAnswer (t .set ∷ key) points (joined (h .masks)) message (signatureRoom p))
-        (signWritten (t .set ∷ key) points (joined (h .masks)) message (signatureRoom p)) same (rw (jq, kq, mq, reads .masks))
+        after-answer (signAnswer (t .set ∷ key) points (flatten (h .masks)) message (signatureRoom p))
+        (signWritten (t .set ∷ key) points (flatten (h .masks)) message (signatureRoom p)) same (rw (jq, kq, mq, reads .masks))
         (λ n e. sign-refused (t .set) known key points (h .masks) message k j (fits .masks) (fits .few) m n (sym same ∙ e)))))
 
     after-check : (a : Verdict) → ((n : ℕ) → a ≡ verdict.Refused n → n ≡ 12) → Does t av h 7 op (afterCheck c h a)

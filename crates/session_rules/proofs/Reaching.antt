@@ -1,34 +1,32 @@
 -- Sessions that plays lead to: what is held is what is read, after any list of plays.
 -- Assumes nothing.
-use mathlib.Core.Path.{_≡_, refl, sym, _∙_}
-use mathlib.Core.Bool.{false, true≢false}
+use mathlib.Core.Path.{_≡_, refl}
 use mathlib.Core.List.{List, [], _∷_, _++_}
 use Prim.Native.Nat.{ℕ}
 use native.Mathlib.Omega.{arith}
 use Rattle.session_rules.specs.Play.{Session, opened, step, Outcome, play}
 use Rattle.session_rules.specs.Plays.{Event, eventOf, eventsFrom, Material, noMaterial, paramsIn, withCommand}
-use Rattle.session_rules.specs.HeldIsRead.{materialAfter, Available, noneAvailable, availableWith, availableAfter, absent, HeldIsRead}
-use Rattle.session_rules.proofs.After.{after, play-by}
+use Rattle.session_rules.specs.HeldIsRead.{Available, noneAvailable, materialAfter, availableWith, availableAfter, absent, HeldIsRead}
+use Rattle.session_rules.specs.After.{after, Reachable, just-opened, once-more}
+use Rattle.session_rules.proofs.After.{play-by}
 use Rattle.session_rules.proofs.Fits.{Fits}
 use Rattle.session_rules.proofs.Stepping.{Steps, steps}
 
--- what holds of a session after the commands from which t and av are read
+-- what holds of a session after the commands that withCommand t and the public evaluations av
 pub record Reached (t : Material) (av : Available) (s : Session) : Type 0 where
   pub reads : HeldIsRead t av (s .held)
   pub fits : Fits (paramsIn t) av (s .held)
-  pub fresh : s .started ≡ false → s .place ≡ 0
 
 pub reached-opened : Reached noMaterial noneAvailable opened
 unfolding opened noMaterial noneAvailable
 reached-opened = record {
   reads = record { set = absent; points = absent; key = absent; evaluations = absent; message = absent; masks = refl };
   fits = record { set = absent; points = absent; key = absent; evaluations = absent; message = absent; masks = tt; few = omega arith };
-  fresh = λ e. refl;
 }
 
 module _ (t : Material) (av : Available) (s : Session) (r : Reached t av s) (file : List ℕ) where
-  pub reached-step : Steps t av s file (step s file)
-  reached-step = steps t av s (r .reads) (r .fits) file (r .fresh)
+  pub reached-step : Steps t av s (step s file)
+  reached-step = steps t av s (r .reads) (r .fits) file
 
   -- one play
   pub reached-play : (buffer : List ℕ)
@@ -37,7 +35,7 @@ module _ (t : Material) (av : Available) (s : Session) (r : Reached t av s) (fil
   reached-play buffer =
       let w = reached-step in
       play-by s file buffer (λ (o : Outcome). Reached (materialAfter t (eventOf s file o)) (availableAfter t av (eventOf s file o)) (o .session)) (λ e. r) (λ e. r)
-      (λ e g. record { reads = w .reads; fits = w .fits; fresh = λ f. absurd (true≢false (sym (w .starts) ∙ f)) })
+      (λ e g. record { reads = w .reads; fits = w .fits })
 
 -- ---- any list of plays
 
@@ -61,16 +59,7 @@ reached-after t av s r file (buffer ∷ buffers) =
     rw (material-append t es (eventsFrom next file buffers), available-append t av es (eventsFrom next file buffers))
     (reached-after (materialAfter t es) (availableAfter t av es) next (reached-play t av s r file buffer) file buffers)
 
--- ---- any session: it comes from opening, and changes only by playing, whatever file and row buffer each play is lent
-
-pub data Reachable : Session → Type 0 where
-  just-opened : Reachable opened
-  once-more : {s : Session} → Reachable s → (file buffer : List ℕ) → Reachable (play s file buffer .session)
-
-pub reachable-after : {s : Session} → Reachable s → (file : List ℕ) (buffers : List (List ℕ)) → Reachable (after s file buffers)
-unfolding after
-reachable-after r file [] = r
-reachable-after r file (buffer ∷ buffers) = reachable-after (once-more r file buffer) file buffers
+-- ---- any session
 
 pub reached : {s : Session} → Reachable s → (t : Material) × ((av : Available) × Reached t av s)
 reached just-opened = (noMaterial, (noneAvailable, reached-opened))

@@ -1,34 +1,29 @@
 -- One play, whatever the file: the session after it holds what is read with the command played, and what the play does otherwise.
 -- Assumes nothing.
-use mathlib.Core.Path.{_≡_, refl, sym, _∙_}
-use mathlib.Core.Bool.{true, false, not, _&&_, true≢false}
+use mathlib.Core.Path.{_≡_, refl, sym}
 use mathlib.Core.List.{List, [], _∷_, _++_}
-use mathlib.Core.Logic.{_⊎_, inl, inr}
-use Prim.Native.Nat.{ℕ, _+_, _≤_, _<_}
+use Prim.Native.Nat.{ℕ, _+_, _≤_}
 use native.Mathlib.Omega.{arith}
-use lib.Dec.{ltb, leb, eqb}
+use lib.Dec.{eqb}
 use lib.ListN.{length, drop, length-append, length-drop}
 use lib.Seq.{length-take-le}
-use borrow.Author.Tests.{ltb-true, ltb-false, eqb-false, ne-eqb, not-false}
+use borrow.Author.Tests.{ltb-true, eqb-false, ne-eqb}
 use Rattle.algebra.specs.Choice.{pick}
-use Rattle.algebra.proofs.Test.{pick-by, by-test}
 use Rattle.session_rules.specs.Held.{withMasks}
-use Rattle.session_rules.specs.Commands.{Payload, nothing, isKnown, needsSet, command}
+use Rattle.session_rules.specs.Commands.{Payload, nothing, command}
 use Rattle.session_rules.specs.Rows.{decimal, hex, spaced, payloadText, rowText}
-use Rattle.session_rules.specs.Play.{Session, Step, nextOrdinal, isTagged, lacksSet, endsAt, goesOn, byteDue, sizeDue, operandDue, endCommand, commandStep, step, rowOf}
+use Rattle.session_rules.specs.Play.{Session, Step, endsWith, endsAt, byteDue, sizeDue, operandDue, step, rowOf}
+use Rattle.session_rules.specs.Refusals.{isEnding}
 use Rattle.session_rules.specs.Plays.{Material, paramsIn, withAccepted, withCommand}
 use Rattle.session_rules.specs.HeldIsRead.{Available, availableWithAccepted, availableWith, HeldIsRead}
 use Rattle.session_rules.proofs.Fits.{Fits}
 use Rattle.session_rules.proofs.Text.{length-decimal, length-hex}
-use Rattle.session_rules.proofs.Playing.{isEnding, played, SignedWith, does}
-
--- a row before the first command: ordinal 0, of the first play, with refusal 1 (the file is too long) or 15 (it has no tag)
-abbrev pub BeforeFirst : Session → ℕ → ℕ → Type 0
-BeforeFirst s ordinal number = (ordinal ≡ 0) × ((s .started ≡ false) × ((number ≡ 1) ⊎ (number ≡ 15)))
+use Rattle.session_rules.proofs.Playing.{played, SignedWith, does}
+use Rattle.session_rules.proofs.Cases.{EndsBy, Goes, going, step-by}
 
 -- what a play that writes a row does to the session s
-pub record Steps (t : Material) (av : Available) (s : Session) (file : List ℕ) (x : Step) : Type 0 where
-  -- what is held is what is read
+pub record Steps (t : Material) (av : Available) (s : Session) (x : Step) : Type 0 where
+  -- what is held is what is told
   pub reads : HeldIsRead (withCommand t (played (x .byte) (x .operand) (x .number))) (availableWith t av (played (x .byte) (x .operand) (x .number))) (x .session .held)
   pub fits : Fits (paramsIn (withCommand t (played (x .byte) (x .operand) (x .number)))) (availableWith t av (played (x .byte) (x .operand) (x .number))) (x .session .held)
   -- an accepted 06 signs with it
@@ -39,14 +34,6 @@ pub record Steps (t : Material) (av : Available) (s : Session) (file : List ℕ)
   -- the session ends with an ending number or an accepted 00, and only then
   pub refused-ends : (x .number ≡ 0 → ⊥) → x .session .ended ≡ isEnding (x .number)
   pub accepted-ends : x .number ≡ 0 → x .session .ended ≡ eqb (x .byte) 0
-  -- the first play is done; where the session goes on, its place is past a command that lies in the file
-  pub starts : x .session .started ≡ true
-  pub moves : x .session .ended ≡ false → (s .place < x .session .place) × (x .session .place ≤ length file)
-  -- a session that goes on has one row more, and began with a file that is not too long
-  pub counts : x .session .ended ≡ false → x .session .rows ≡ nextOrdinal (s .rows)
-  pub begins : s .started ≡ false → x .session .ended ≡ false → length file ≤ 65536
-  -- the row has the next ordinal, or stands before the first command
-  pub numbered : (x .ordinal ≡ nextOrdinal (s .rows)) ⊎ BeforeFirst s (x .ordinal) (x .number)
   -- the row fits its buffer
   pub short : length (rowOf x) ≤ 16384
 
@@ -65,69 +52,45 @@ length-row ordinal byte number x h =
       length-decimal number,
     )
 
-module _ (t : Material) (av : Available) (s : Session) (reads : HeldIsRead t av (s .held)) (fits : Fits (paramsIn t) av (s .held)) (file : List ℕ) where
+module _ (t : Material) (av : Available) (s : Session) (reads : HeldIsRead t av (s .held)) (fits : Fits (paramsIn t) av (s .held)) where
   -- a refusal that ends the session
-  stops : {place ordinal rows : ℕ} (byte number : ℕ) → (ordinal ≡ nextOrdinal (s .rows)) ⊎ BeforeFirst s ordinal number
-      → eqb number 0 ≡ false → eqb number 9 ≡ false → isEnding number ≡ true
-      → Steps t av s file (record {
-        session = record { started = true; ended = true; place = place; rows = rows; held = s .held };
-        ordinal = ordinal;
-        byte = byte;
-        operand = [];
-        number = number;
-        payload = nothing;
-      })
+  stops : (ordinal byte number : ℕ) → EndsBy number → Steps t av s (endsWith s ordinal byte number)
   unfolding withCommand availableWith
-  stops {ordinal = ordinal} byte number o z q e = record {
-    reads = rw (z, q) reads;
-    fits = rw (z, q) fits;
-    signs = λ b n. absurd (eqb-false number 0 z n);
-    leaves = λ n. rw q;
+  stops ordinal byte number e = record {
+    reads = rw (e .refusal, e .no-nine) reads;
+    fits = rw (e .refusal, e .no-nine) fits;
+    signs = λ b n. absurd (eqb-false number 0 (e .refusal) n);
+    leaves = λ n. rw (e .no-nine);
     alone = λ n. refl;
-    refused-ends = λ n. sym e;
-    accepted-ends = λ n. absurd (eqb-false number 0 z n);
-    starts = refl;
-    moves = λ f. absurd (true≢false f);
-    counts = λ f. absurd (true≢false f);
-    begins = λ b f. absurd (true≢false f);
-    numbered = o;
+    refused-ends = λ n. sym (e .ending);
+    accepted-ends = λ n. absurd (eqb-false number 0 (e .refusal) n);
     short = length-row ordinal byte number nothing (omega arith);
   }
 
   -- 00
-  finishes : (at : ℕ) → Steps t av s file (endCommand s file at)
+  finishes : Steps t av s (endsAt s 0 0)
   unfolding withCommand withAccepted availableWith availableWithAccepted
-  finishes at = by-test (eqb (length file) (at + 1)) (λ e. rw e last) (λ e. rw e (stops 0 16 (inl refl) refl refl refl))
-    where
-      last : Steps t av s file (endsAt s (at + 1) 0 0)
-      last = record {
-        reads = reads;
-        fits = fits;
-        signs = λ b n. absurd (omega arith);
-        leaves = λ n. absurd (n refl);
-        alone = λ n. absurd (n refl);
-        refused-ends = λ n. absurd (n refl);
-        accepted-ends = λ n. refl;
-        starts = refl;
-        moves = λ f. absurd (true≢false f);
-        counts = λ f. absurd (true≢false f);
-        begins = λ b f. absurd (true≢false f);
-        numbered = inl refl;
-        short = length-row (nextOrdinal (s .rows)) 0 0 nothing (omega arith);
-      }
+  finishes = record {
+    reads = reads;
+    fits = fits;
+    signs = λ b n. absurd (omega arith);
+    leaves = λ n. absurd (n refl);
+    alone = λ n. absurd (n refl);
+    refused-ends = λ n. absurd (n refl);
+    accepted-ends = λ n. refl;
+    short = length-row (s .rows + 1) 0 0 nothing (omega arith);
+  }
 
-  -- the command due at a place, and what the first play has tested before it
-  module _ (at : ℕ) (later : s .place ≤ at) (begun : s .started ≡ false → length file ≤ 65536) where
+  module _ (file : List ℕ) where
     -- the operand lies whole in the file
-    whole : at + 1 + sizeDue s file at ≤ length file → length (operandDue s file at) ≡ sizeDue s file at
-    whole h = length-take-le (sizeDue s file at) (drop (at + 1) file) (omega (arith, length-drop (at + 1) file))
+    operand-whole : (at : ℕ) → at + 1 + sizeDue s file at ≤ length file → length (operandDue s file at) ≡ sizeDue s file at
+    operand-whole at h = length-take-le (sizeDue s file at) (drop (at + 1) file) (omega (arith, length-drop (at + 1) file))
 
-    goes-on : isKnown (byteDue s file at) ≡ true → (byteDue s file at ≡ 0 → ⊥) → needsSet (byteDue s file at) && lacksSet (s .held .set) ≡ false
-        → at + 1 + sizeDue s file at ≤ length file
-        → Steps t av s file (goesOn s (at + 1 + sizeDue s file at) (byteDue s file at) (operandDue s file at) (command (s .held) (byteDue s file at) (operandDue s file at)))
-    goes-on known nonzero needs room =
+    goes-on : (at : ℕ) → Goes s file at → Steps t av s (going s file at)
+    goes-on at g =
         let b = byteDue s file at in
-        let d = does t av (s .held) reads fits (operandDue s file at) b (omega arith) (ltb-true b 9 known) needs (whole room) in
+        let d = does t av (s .held) reads fits (operandDue s file at) b (omega (arith, g .nonzero)) (ltb-true b 9 (g .known)) (g .needs) (operand-whole at (g .whole)) in
+        let done = command (s .held) b (operandDue s file at) in
         record {
           reads = d .reads;
           fits = d .fits;
@@ -135,31 +98,9 @@ module _ (t : Material) (av : Available) (s : Session) (reads : HeldIsRead t av 
           leaves = d .leaves;
           alone = d .alone;
           refused-ends = λ n. sym (d .goes);
-          accepted-ends = λ n. sym (ne-eqb b 0 nonzero);
-          starts = refl;
-          moves = λ f. (omega arith, room);
-          counts = λ f. refl;
-          begins = λ e f. begun e;
-          numbered = inl refl;
-          short = length-row (nextOrdinal (s .rows)) b (command (s .held) b (operandDue s file at) .number) (command (s .held) b (operandDue s file at) .payload) (d .short);
+          accepted-ends = λ n. sym (ne-eqb b 0 (g .nonzero));
+          short = length-row (s .rows + 1) b (done .number) (done .payload) (d .short);
         }
 
-    steps-command : Steps t av s file (commandStep s file at)
-    unfolding commandStep
-    steps-command =
-        let b = byteDue s file at in
-        pick-by (Steps t av s file) (leb (length file) at) (λ e. stops 0 13 (inl refl) refl refl refl)
-        (λ e. pick-by (Steps t av s file) (not (isKnown b)) (λ k. stops b 14 (inl refl) refl refl refl)
-        (λ k. pick-by (Steps t av s file) (needsSet b && lacksSet (s .held .set)) (λ n. stops b 3 (inl refl) refl refl refl)
-        (λ n. pick-by (Steps t av s file) (ltb (length file) (at + 1 + sizeDue s file at)) (λ l. stops b 13 (inl refl) refl refl refl)
-        (λ l. pick-by (Steps t av s file) (eqb b 0) (λ z. finishes at)
-        (λ z. goes-on (not-false (isKnown b) k) (eqb-false b 0 z) n (ltb-false (length file) (at + 1 + sizeDue s file at) l))))))
-
-  -- a session whose first play is to come is at place 0
-  pub steps : (s .started ≡ false → s .place ≡ 0) → Steps t av s file (step s file)
-  unfolding step
-  steps fresh =
-      pick-by (Steps t av s file) (s .started) (λ e. steps-command (s .place) (omega arith) (λ f. absurd (true≢false (sym e ∙ f))))
-      (λ e. pick-by (Steps t av s file) (ltb 65536 (length file)) (λ l. stops 0 1 (inr (refl, (e, inl refl))) refl refl refl)
-      (λ l. pick-by (Steps t av s file) (not (isTagged file)) (λ g. stops 0 15 (inr (refl, (e, inr refl))) refl refl refl)
-      (λ g. steps-command 4 (omega (arith, fresh e)) (λ f. ltb-false 65536 (length file) l))))
+    pub steps : Steps t av s (step s file)
+    steps = step-by s file (Steps t av s) (λ n e b. stops 0 0 n e) (λ byte n e. stops (s .rows + 1) byte n e) finishes goes-on

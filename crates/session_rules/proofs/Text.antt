@@ -3,8 +3,8 @@
 use mathlib.Core.Path.{_≡_, refl, ap, ap₂, _∙_}
 use mathlib.Core.Bool.{Bool, true, _&&_}
 use mathlib.Core.List.{List, [], _∷_, _++_, append-assoc}
-use Prim.Native.Nat.{ℕ, zero, suc, _+_, _*_, _/_, _%_, _≤_, _<_}
-use native.Mathlib.Nat.{div-add-mod'}
+use Prim.Native.Nat.{ℕ, zero, suc, _+_, _*_, _^_, _/_, _%_, _≤_, _<_}
+use native.Mathlib.Nat.{div-add-mod', div-lt-iff-lt-mul, pow-suc, zero-lt-suc}
 use native.Mathlib.Omega.{arith}
 use lib.Dec.{T, ltb, ltb→lt, lt→ltb}
 use lib.ListN.{length, drop, length-append}
@@ -26,18 +26,32 @@ length-digits (suc more) n =
     pick-by (λ (l : List ℕ). length l ≤ suc (suc more)) (ltb n 10) (λ t. omega arith)
     (λ t. omega (arith, length-append (digits more (n / 10)) ((48 + n % 10) ∷ []), length-digits more (n / 10)))
 
-pub length-decimal : (n : ℕ) → length (decimal n) ≤ 10
-length-decimal n = length-digits 9 n
+-- a number of few digits, whatever the budget
+pub digits-enough : (m more n : ℕ) → m ≤ more → n < 10 ^ suc m → digits more n ≡ digits m n
+unfolding digits
+digits-enough zero zero n l h = refl
+digits-enough zero (suc more) n l h = rw (lt-ltb n 10 h)
+digits-enough (suc m) zero n l h = absurd (omega arith)
+digits-enough (suc m) (suc more) n l h =
+    let fewer : n / 10 < 10 ^ suc m = div-lt-iff-lt-mul (zero-lt-suc 9) .1 (rw (pow-suc 10 (suc m)) at h) in
+    by-test (ltb n 10) (λ t. rw t) (λ t. rw (t, digits-enough m more (n / 10) (omega arith) fewer))
+
+pub length-decimal : (n : ℕ) → length (decimal n) ≤ 20
+length-decimal n = length-digits 19 n
 
 pub length-hex : (xs : List ℕ) → length (hex xs) ≡ 2 * length xs
 unfolding hex
 length-hex [] = refl
 length-hex (x ∷ xs) = omega (arith, length-hex xs)
 
-pub length-numbers : (vs : List ℕ) → length (spacedNumbers vs) ≤ 11 * length vs
+-- numbers of at most ten digits
+pub length-numbers : (q : ℕ) (vs : List ℕ) → q ≤ 10 ^ 10 → T (areBelow q vs) → length (spacedNumbers vs) ≤ 11 * length vs
 unfolding spacedNumbers
-length-numbers [] = omega arith
-length-numbers (v ∷ vs) = omega (arith, length-append (spaced (decimal v)) (spacedNumbers vs), length-decimal v, length-numbers vs)
+length-numbers q [] h t = omega arith
+length-numbers q (v ∷ vs) h t =
+    let few : v < 10 ^ 10 = omega (arith, ltb→lt v q (and-left (ltb v q) (areBelow q vs) t)) in
+    let ten : length (decimal v) ≤ 10 = rw (digits-enough 9 19 v (omega arith) few) (length-digits 9 v) in
+    omega (arith, length-append (spaced (decimal v)) (spacedNumbers vs), ten, length-numbers q vs h (and-right (ltb v q) (areBelow q vs) t))
 
 -- ---- fields are parted by a space
 
@@ -45,7 +59,7 @@ length-numbers (v ∷ vs) = omega (arith, length-append (spaced (decimal v)) (sp
 abbrev pub isVisible : ℕ → Bool
 isVisible x = ltb 32 x
 
-pub visible-digits : (more n : ℕ) → T (all isVisible (digits more n))
+visible-digits : (more n : ℕ) → T (all isVisible (digits more n))
 unfolding digits
 visible-digits zero n = and-intro (ltb 32 (48 + n % 10)) true (true-holds (lt-ltb 32 (48 + n % 10) (omega arith))) tt
 visible-digits (suc more) n =
@@ -53,6 +67,9 @@ visible-digits (suc more) n =
     pick-by (λ (l : List ℕ). T (all isVisible l)) (ltb n 10) (λ t. last)
     (λ t. rw (all-append isVisible (digits more (n / 10)) ((48 + n % 10) ∷ []))
     (and-intro (all isVisible (digits more (n / 10))) (all isVisible ((48 + n % 10) ∷ [])) (visible-digits more (n / 10)) last))
+
+pub visible-decimal : (n : ℕ) → T (all isVisible (decimal n))
+visible-decimal n = visible-digits 19 n
 
 visible-digit : (n : ℕ) → 32 < hexDigit n
 visible-digit n = pick-by (λ (x : ℕ). 32 < x) (ltb n 10) (λ t. omega arith) (λ t. omega arith)
@@ -88,14 +105,14 @@ inside-append l m s t = rw (all-append isInside l m) (and-intro (all isInside l)
 inside-numbers : (vs : List ℕ) → T (all isInside (spacedNumbers vs))
 unfolding spacedNumbers
 inside-numbers [] = tt
-inside-numbers (v ∷ vs) = inside-append (spaced (decimal v)) (spacedNumbers vs) (inside (decimal v) (visible-digits 9 v)) (inside-numbers vs)
+inside-numbers (v ∷ vs) = inside-append (spaced (decimal v)) (spacedNumbers vs) (inside (decimal v) (visible-decimal v)) (inside-numbers vs)
 
 pub inside-payload : (x : Payload) → T (all isInside (payloadText x))
 inside-payload nothing = tt
 inside-payload (values vs) = inside-numbers vs
 inside-payload (signed i bytes) =
-    inside-append (spaced (decimal i)) (spaced (hex bytes)) (inside (decimal i) (visible-digits 9 i)) (inside (hex bytes) (visible-hex bytes))
-inside-payload (judged v) = inside (decimal v) (visible-digits 9 v)
+    inside-append (spaced (decimal i)) (spaced (hex bytes)) (inside (decimal i) (visible-decimal i)) (inside (hex bytes) (visible-hex bytes))
+inside-payload (judged v) = inside (decimal v) (visible-decimal v)
 
 -- l is a row's text from some place on: its first line feed is its last character
 abbrev pub Ends : List ℕ → Type 0
@@ -158,6 +175,6 @@ unfolding printedSignature rowText
 printed-back ordinal byte number i bytes buffer t =
     let rest = drop (length (rowText ordinal byte number (signed i bytes))) buffer in
     ap unhex
-    (fifth-field (decimal ordinal) (hex (byte ∷ [])) (decimal number) (decimal i) (hex bytes) rest (visible-digits 9 ordinal) (visible-hex (byte ∷ [])) (visible-digits 9 number)
-    (visible-digits 9 i))
+    (fifth-field (decimal ordinal) (hex (byte ∷ [])) (decimal number) (decimal i) (hex bytes) rest (visible-decimal ordinal) (visible-hex (byte ∷ [])) (visible-decimal number)
+    (visible-decimal i))
     ∙ unhex-hex bytes rest t

@@ -2,7 +2,7 @@
 -- and what its row adds. A refused command leaves what is held, save that 9 drops all masks.
 -- Assumes nothing.
 use mathlib.Core.Bool.{Bool, not}
-use mathlib.Core.List.{List, [], _∷_, _++_, map}
+use mathlib.Core.List.{List, [], _∷_, _++_, map, flatten}
 use mathlib.Core.Option.{Option, none, some}
 use Prim.Native.Nat.{ℕ, suc, _+_, _*_}
 use lib.Dec.{ltb, leb, eqb}
@@ -10,11 +10,11 @@ use lib.IntN.{ℤ}
 use lib.ListN.{length, getD, drop, replicate}
 use Rattle.algebra.specs.Choice.{pick}
 use Rattle.algebra.specs.All.{all}
+use Rattle.algebra.specs.Integer.{within}
 use Rattle.parameters.specs.declared.Params.{Params}
 use Rattle.parameters.specs.Sets.{isSet, setOf}
-use Rattle.polynomial.specs.Polynomial.{within}
 use Rattle.polynomial.specs.Evaluation.{evaluations}
-use Rattle.encoding.specs.Bytes.{numbers, signed16, joined}
+use Rattle.encoding.specs.Bytes.{numbers, signed16}
 use Rattle.encoding.specs.Encoding.{isKeyByte, keyCoefficient, arePoints, areEvaluations, publicKey, signatureSize}
 use Rattle.answers.specs.declared.Signing.{Signing}
 use Rattle.answers.specs.declared.Signing.the-variants as signing
@@ -111,8 +111,8 @@ module _ (c : Chosen) (h : Held) where
       (λ (key : List ℕ). needing (h .message) h
       (λ (message : List ℕ).
       afterSigning
-      (signAnswer (c .byte ∷ key) points (joined (h .masks)) message (signatureRoom (c .params)))
-      (signWritten (c .byte ∷ key) points (joined (h .masks)) message (signatureRoom (c .params))))))
+      (signAnswer (c .byte ∷ key) points (flatten (h .masks)) message (signatureRoom (c .params)))
+      (signWritten (c .byte ∷ key) points (flatten (h .masks)) message (signatureRoom (c .params))))))
 
   -- 07: the library's check of a signature without its set byte
   abbrev pub afterCheck : Verdict → Done

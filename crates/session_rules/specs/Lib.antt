@@ -4,3 +4,8 @@ pub mod Rows
 pub mod Play
 pub mod Plays
 pub mod HeldIsRead
+pub mod After
+pub mod Transcript
+pub mod RightPlays
+pub mod Ordinals
+pub mod Refusals

@@ -3,7 +3,7 @@
 use mathlib.Core.Bool.{Bool, true, false, not, _&&_}
 use mathlib.Core.List.{List, []}
 use mathlib.Core.Option.{Option, none, some}
-use Prim.Native.Nat.{ℕ, _+_, _%_, _^_}
+use Prim.Native.Nat.{ℕ, _+_}
 use lib.Dec.{ltb, leb, eqb}
 use lib.ListN.{length, getD, take, drop}
 use Rattle.algebra.specs.Choice.{pick}
@@ -11,9 +11,8 @@ use Rattle.session_rules.specs.Held.{Chosen, Held, onlySet}
 use Rattle.session_rules.specs.Commands.{Payload, nothing, Done, isKnown, needsSet, operandSize, command}
 use Rattle.session_rules.specs.Rows.{rowText, atFront}
 
--- whether the first play is done, whether the session has ended, its place in the file, its row count, and what is held
+-- whether the session has ended, its place in the file (0 before the first play), its row count, and what is held
 pub record Session : Type 0 where
-  pub started : Bool
   pub ended : Bool
   pub place : ℕ
   pub rows : ℕ
@@ -21,7 +20,7 @@ pub record Session : Type 0 where
 
 -- a session just opened
 unfoldable pub opened : Session
-opened = record { started = false; ended = false; place = 0; rows = 0; held = onlySet none }
+opened = record { ended = false; place = 0; rows = 0; held = onlySet none }
 
 -- what a play of a session that has not ended gives: the session after it, and the row's fields with the operand that was read
 pub record Step : Type 0 where
@@ -42,41 +41,33 @@ abbrev pub lacksSet : Option Chosen → Bool
 lacksSet none = true
 lacksSet (some c) = false
 
--- the ordinal of the next row, from 1; a count of 32 bits, which no file of 65,536 bytes exhausts
-abbrev pub nextOrdinal : ℕ → ℕ
-nextOrdinal rows = (rows + 1) % 2 ^ 32
-
 module _ (s : Session) where
-  -- a row that ends the session, before the first command: ordinal 0 and byte 00
-  abbrev pub endsBefore : ℕ → Step
-  endsBefore number =
+  -- a row that ends the session. Nothing is played from there, so its place and row count stay, with all that is held
+  abbrev pub endsWith : ℕ → ℕ → ℕ → Step
+  endsWith ordinal byte number =
       record {
-        session = record { started = true; ended = true; place = s .place; rows = s .rows; held = s .held };
-        ordinal = 0;
-        byte = 0;
-        operand = [];
-        number = number;
-        payload = nothing;
-      }
-
-  -- the row of a command that ends the session
-  abbrev pub endsAt : ℕ → ℕ → ℕ → Step
-  endsAt place byte number =
-      record {
-        session = record { started = true; ended = true; place = place; rows = nextOrdinal (s .rows); held = s .held };
-        ordinal = nextOrdinal (s .rows);
+        session = record { ended = true; place = s .place; rows = s .rows; held = s .held };
+        ordinal = ordinal;
         byte = byte;
         operand = [];
         number = number;
         payload = nothing;
       }
 
+  -- before the first command: ordinal 0 and byte 00
+  abbrev pub endsBefore : ℕ → Step
+  endsBefore number = endsWith 0 0 number
+
+  -- a command that ends the session
+  abbrev pub endsAt : ℕ → ℕ → Step
+  endsAt byte number = endsWith (s .rows + 1) byte number
+
   -- a command that goes on behind its operand
   abbrev pub goesOn : ℕ → ℕ → List ℕ → Done → Step
   goesOn next byte operand d =
       record {
-        session = record { started = true; ended = false; place = next; rows = nextOrdinal (s .rows); held = d .held };
-        ordinal = nextOrdinal (s .rows);
+        session = record { ended = false; place = next; rows = s .rows + 1; held = d .held };
+        ordinal = s .rows + 1;
         byte = byte;
         operand = operand;
         number = d .number;
@@ -96,41 +87,41 @@ module _ (s : Session) where
 
     -- 00 ends the session: accepted where nothing follows, else 16
     abbrev pub endCommand : Step
-    endCommand = endsAt (at + 1) 0 (pick (eqb (length file) (at + 1)) 0 16)
+    endCommand = endsAt 0 (pick (eqb (length file) (at + 1)) 0 16)
 
     -- the command due there: 13 (byte 00) where the file ends, 14, 3, 13 inside an operand, then its own
     unfoldable pub commandStep : Step
     commandStep =
-        pick (leb (length file) at) (endsAt at 0 13)
-        (pick (not (isKnown byteDue)) (endsAt at byteDue 14)
-        (pick (needsSet byteDue && lacksSet (s .held .set)) (endsAt at byteDue 3)
-        (pick (ltb (length file) (at + 1 + sizeDue)) (endsAt at byteDue 13)
+        pick (leb (length file) at) (endsAt 0 13)
+        (pick (not (isKnown byteDue)) (endsAt byteDue 14)
+        (pick (needsSet byteDue && lacksSet (s .held .set)) (endsAt byteDue 3)
+        (pick (ltb (length file) (at + 1 + sizeDue)) (endsAt byteDue 13)
         (pick (eqb byteDue 0) endCommand
         (goesOn (at + 1 + sizeDue) byteDue operandDue (command (s .held) byteDue operandDue))))))
 
-  -- the first play tests the length and the tag, and then plays the first command
+  -- the first play, at place 0, tests the length and the tag, and then plays the first command
   unfoldable pub step : List ℕ → Step
   step file =
-      pick (s .started) (commandStep file (s .place))
+      pick (ltb 0 (s .place)) (commandStep file (s .place))
       (pick (ltb 65536 (length file)) (endsBefore 1)
       (pick (not (isTagged file)) (endsBefore 15)
       (commandStep file 4)))
 
 -- what a play answers: a row was written, with this number; the row buffer is at fault; the session has ended
-pub data Answer : Type 0 where
-  row : ℕ → Answer
-  fault : Answer
-  over : Answer
+pub data PlayAnswer : Type 0 where
+  row : ℕ → PlayAnswer
+  fault : PlayAnswer
+  over : PlayAnswer
 
 -- the document's number of an answer: a row prints its own, a row buffer of another length is refusal 1, and after the end there is none
-abbrev pub answerNumber : Answer → Option ℕ
+abbrev pub answerNumber : PlayAnswer → Option ℕ
 answerNumber (row n) = some n
 answerNumber fault = some 1
 answerNumber over = none
 
 pub record Outcome : Type 0 where
   pub session : Session
-  pub answer : Answer
+  pub answer : PlayAnswer
   pub buffer : List ℕ
 
 abbrev pub rowOf : Step → List ℕ

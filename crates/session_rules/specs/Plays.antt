@@ -3,7 +3,7 @@
 -- Assumes nothing.
 use mathlib.Core.Path.{_≡_}
 use mathlib.Core.Bool.{Bool, not, _&&_}
-use mathlib.Core.List.{List, [], _∷_, _++_}
+use mathlib.Core.List.{List, [], _∷_, _++_, flatten}
 use mathlib.Core.Logic.{_↔_}
 use Prim.Native.Nat.{ℕ, suc, _+_, _-_, _*_}
 use lib.Dec.{T, ltb, eqb}
@@ -13,12 +13,12 @@ use Rattle.algebra.specs.Choice.{pick}
 use Rattle.algebra.specs.All.{all}
 use Rattle.parameters.specs.declared.Params.{Params}
 use Rattle.parameters.specs.Sets.{setOf}
-use Rattle.encoding.specs.Bytes.{numbers, joined}
+use Rattle.encoding.specs.Bytes.{numbers}
 use Rattle.answers.specs.declared.Signing.{Signing}
 use Rattle.answers.specs.declared.Signing.the-variants as signing
 use Rattle.passign.specs.Hiding.{Call, entries, Made, Same, Each₃}
 use Rattle.session_rules.specs.Commands.{maskOf, signatureRoom}
-use Rattle.session_rules.specs.Play.{Session, opened, step, Answer, row, fault, over, Outcome, play}
+use Rattle.session_rules.specs.Play.{Session, opened, step, PlayAnswer, row, fault, over, Outcome, play}
 
 -- a command that was played: its byte, operand and number, and the row buffer after the play
 pub record Event : Type 0 where
@@ -31,7 +31,7 @@ pub record Event : Type 0 where
 abbrev pub eventOf : Session → List ℕ → Outcome → List Event
 eventOf s file o = written (o .answer)
   where
-    written : Answer → List Event
+    written : PlayAnswer → List Event
     written (row n) = record { byte = step s file .byte; operand = step s file .operand; number = n; buffer = o .buffer } ∷ []
     written fault = []
     written over = []
@@ -95,7 +95,7 @@ module _ (m : Material) where
   -- the call of the library's signing that a 06 is, with the key in its encoding
   abbrev pub callWith : Call
   callWith =
-      record { key = m .set ∷ m .key; points = m .points; masks = joined (m .masks); message = m .message; out = signatureRoom paramsIn }
+      record { key = m .set ∷ m .key; points = m .points; masks = flatten (m .masks); message = m .message; out = signatureRoom paramsIn }
 
   -- how many masks are passed over before the first that passes, and so its number
   unfoldable pub firstPassing : ℕ

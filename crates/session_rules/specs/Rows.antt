@@ -12,9 +12,9 @@ unfoldable pub digits : ℕ → ℕ → List ℕ
 digits zero n = (48 + n % 10) ∷ []
 digits (suc more) n = pick (ltb n 10) ((48 + n % 10) ∷ []) (digits more (n / 10) ++ ((48 + n % 10) ∷ []))
 
--- n below 10 to the 10, in decimal
+-- n below 10 to the 20, in decimal
 abbrev pub decimal : ℕ → List ℕ
-decimal n = digits 9 n
+decimal n = digits 19 n
 
 -- an upper-case hex digit
 abbrev pub hexDigit : ℕ → ℕ

@@ -1,14 +1,13 @@
 // Command 06: the library's signing with what is held.
 ghost use mathlib.Core.Path.{_≡_};
 ghost use mathlib.Core.Bool.{_&&_};
-ghost use mathlib.Core.List.{[], _∷_};
+ghost use mathlib.Core.List.{[], _∷_, flatten};
 ghost use Prim.Native.Nat.{suc};
 ghost use lib.Dec.{eqb};
 ghost use lib.ListN.{length, take, drop};
 ghost use Rattle.algebra.specs.Choice.{pick};
 ghost use Rattle.parameters.specs.declared.Params.{Params};
 ghost use Rattle.parameters.specs.Sound.{Fitting};
-ghost use Rattle.encoding.specs.Bytes.{joined};
 ghost use Rattle.encoding.specs.Encoding.{secretKeySize, signatureSize};
 ghost use Rattle.entry_sign.specs.Sign.{signAnswer, signWritten};
 ghost use Rattle.session_rules.specs.Held.{withMasks};
@@ -56,8 +55,8 @@ fn secret_held(p: Params, h: Held) -> [u8; 2435]
 // The library's signing, lent a signature of zeros.
 fn make(p: Params, h: Held) -> Made
     requires { ⌜ Fitting p ⌝ }
-    ensures answer { λ r. ⌜ r .answer ≡ signAnswer (h .set ∷ take (p .n) (h .key .bytes)) (take (p .t) (h .points .list)) (joined (masksHeld (p .n) (h .masks))) (h .message .bytes) (signatureRoom p) ⌝ }
-    ensures bytes { λ r. ⌜ take (signatureSize p) (r .bytes) ≡ signWritten (h .set ∷ take (p .n) (h .key .bytes)) (take (p .t) (h .points .list)) (joined (masksHeld (p .n) (h .masks))) (h .message .bytes) (signatureRoom p) ⌝ }
+    ensures answer { λ r. ⌜ r .answer ≡ signAnswer (h .set ∷ take (p .n) (h .key .bytes)) (take (p .t) (h .points .list)) (flatten (masksHeld (p .n) (h .masks))) (h .message .bytes) (signatureRoom p) ⌝ }
+    ensures bytes { λ r. ⌜ take (signatureSize p) (r .bytes) ≡ signWritten (h .set ∷ take (p .n) (h .key .bytes)) (take (p .t) (h .points .list)) (flatten (masksHeld (p .n) (h .masks))) (h .message .bytes) (signatureRoom p) ⌝ }
 {
     let n = p.n;
     let t = p.t;
@@ -112,7 +111,7 @@ fn after_signing(p: Params, h: Held, passed: u8) -> Held
 }
 
 // 10 with its row, where something lacks: what is held stays.
-fn lack(h: Held, ordinal: u32, rows: &mut [u8]) -> Done
+fn lack(h: Held, ordinal: usize, rows: &mut [u8]) -> Done
     requires { ⌜ length (now rows) ≡ 16384 ⌝ }
     ensures ran { λ r. ⌜ ((p : Params) → Ran (refused 10 (heldIn p h)) ordinal 6 (r .number) (heldIn p (r .held)) (now (rows .entry)) (now (rows .exit))) ⌝ }
     ensures set { λ r. ⌜ r .held .set ≡ h .set ⌝ }
@@ -125,7 +124,7 @@ fn lack(h: Held, ordinal: u32, rows: &mut [u8]) -> Done
 }
 
 // 06, with its row.
-pub fn sign_held(p: Params, h: Held, ordinal: u32, rows: &mut [u8]) -> Done
+pub fn sign_held(p: Params, h: Held, ordinal: usize, rows: &mut [u8]) -> Done
     requires { ⌜ InSet p (h .set) ⌝ }
     requires { ⌜ length (now rows) ≡ 16384 ⌝ }
     ensures ran { λ r. ⌜ Ran (sign (chosenIn p (h .set)) (heldIn p h)) ordinal 6 (r .number) (heldIn p (r .held)) (now (rows .entry)) (now (rows .exit)) ⌝ }

@@ -10,8 +10,8 @@ use lib.ListN.{length, drop, replicate, length-map}
 use lib.Seq.{length-take-le}
 use borrow.Author.Needs.{needs}
 use borrow.Author.Tests.{lt-ltb, le-ltb, lt-leb, not-true, not-false}
+use Rattle.algebra.specs.Integer.{within}
 use Rattle.parameters.specs.declared.Params.{Params}
-use Rattle.polynomial.specs.Polynomial.{within}
 use Rattle.encoding.specs.Bytes.{numbers, signed16}
 use Rattle.encoding.proofs.Parts.{length-numbers, length-parts}
 use Rattle.session_rules.specs.Commands.{nothing, maskOf, loadMask}

@@ -1,4 +1,4 @@
--- `put_head` writes three fields, of 10, 3 and 11 bytes at most.
+-- `put_head` writes three fields, of 20, 3 and 11 bytes at most.
 -- Assumes nothing.
 use native.Mathlib.Omega.{arith}
 use borrow.Author.Needs.{needs}

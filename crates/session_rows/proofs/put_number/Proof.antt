@@ -1,7 +1,8 @@
--- `put_number` writes a space and the digits.
+-- `put_number` writes a space and the digits: ten are enough for a u32.
 -- Assumes nothing.
 use native.Mathlib.Omega.{arith}
 use borrow.Author.Needs.{needs}
+use Rattle.session_rules.proofs.Text.{digits-enough}
 use Rattle.session_rows.proofs.RowText.{wrote-then}
 use Rattle.session_rows.proofs.put_number.Statement.{statement}
 use Rattle.session_rows.proofs.put_number.Tie as tie
@@ -19,7 +20,9 @@ returns : tie.Need-returns
 returns c =
     let number = c .before .before in
     let space = number .before .before .before .before in
-    (wrote-then (space .put .ensures) (number .put-digits .ensures .0), omega arith)
+    let n = space .before .before .before .args .n in
+    let ten = digits-enough 9 19 n (omega arith) (omega arith) in
+    (rw ten (wrote-then (space .put .ensures) (number .put-digits .ensures .0)), omega arith)
 
 pub put-number-spec : {M : Type 1} → statement M
 put-number-spec = tie.close (tie.spec put-requires put-digits-requires same-length returns)

@@ -1,19 +1,18 @@
 -- `make` meets its contract: the library's entry is lent the secret key, the points, the masks and the message held, and zeros.
 -- Assumes nothing.
 use mathlib.Core.Path.{_≡_, sym, ap, _∙_}
-use mathlib.Core.List.{List}
+use mathlib.Core.List.{List, flatten}
 use Prim.Native.Nat.{ℕ, _*_, _≤_}
 use native.Mathlib.Omega.{arith}
 use lib.IntN.{ℤ}
 use lib.ListN.{length, take, drop, replicate}
 use lib.Seq.{length-take-le, take-at}
 use borrow.Author.Needs.{needs}
-use Rattle.encoding.specs.Bytes.{joined}
 use Rattle.encoding.specs.Encoding.{secretKeySize, signatureSize}
 use Rattle.entry_sign.specs.Sign.{signAnswer, signWritten}
 use Rattle.session_state.specs.State.{masksHeld}
 use Rattle.algebra.proofs.List.{take-replicate}
-use Rattle.encoding.proofs.Parts.{joined-parts}
+use Rattle.encoding.proofs.Parts.{flatten-parts}
 use Rattle.session_state.proofs.MaskList.{room}
 use Rattle.session_state.proofs.Room.{points-room, signature-room}
 use Rattle.session_signing.proofs.make.Statement.{statement}
@@ -118,11 +117,11 @@ module _ (c : tie.After-out2) where
   abbrev start : tie.Start
   start = used .before .before .before .before
 
-  masks-lent : take (used .at-most-eight .result * start .args .p .n) (start .args .h .masks .numbers) ≡ joined (masksHeld (start .args .p .n) (start .args .h .masks))
+  masks-lent : take (used .at-most-eight .result * start .args .p .n) (start .args .h .masks .numbers) ≡ flatten (masksHeld (start .args .p .n) (start .args .h .masks))
   masks-lent =
       let h = start .args .h .masks in
       let n = start .args .p .n in
-      ap (λ (k : ℕ). take (k * n) (h .numbers)) (used .at-most-eight .ensures .0) ∙ sym (joined-parts n _ (h .numbers))
+      ap (λ (k : ℕ). take (k * n) (h .numbers)) (used .at-most-eight .ensures .0) ∙ sym (flatten-parts n _ (h .numbers))
 
 returns : tie.Need-returns
 returns c =

@@ -2,7 +2,7 @@
 -- Assumes nothing.
 use mathlib.Core.Path.{_≡_, refl, sym, _∙_}
 use mathlib.Core.Bool.{true, false, _&&_}
-use mathlib.Core.List.{List, _∷_}
+use mathlib.Core.List.{List, _∷_, flatten}
 use Prim.Native.Nat.{ℕ}
 use native.Mathlib.Omega.{arith}
 use lib.ListN.{length, take}
@@ -12,7 +12,6 @@ use borrow.Author.Tests.{not-true, not-false}
 use Rattle.parameters.specs.declared.Params.{Params}
 use Rattle.parameters.specs.Sound.{Fitting}
 use Rattle.parameters.proofs.Lookup.{lookup-fitting}
-use Rattle.encoding.specs.Bytes.{joined}
 use Rattle.encoding.specs.Encoding.{signatureSize}
 use Rattle.answers.specs.declared.Signing.{Signing}
 use Rattle.entry_sign.specs.Sign.{signAnswer, signWritten}
@@ -27,10 +26,10 @@ use Rattle.session_signing.proofs.sign_held.Tie as tie
 -- what command 06 does, by what is held
 module _ (p : Params) (h : Held) where
   abbrev answerOf : List ℕ → List ℕ → List ℕ → Signing
-  answerOf points key message = signAnswer (h .set ∷ key) points (joined (masksHeld (p .n) (h .masks))) message (signatureRoom p)
+  answerOf points key message = signAnswer (h .set ∷ key) points (flatten (masksHeld (p .n) (h .masks))) message (signatureRoom p)
 
   abbrev writtenBy : List ℕ → List ℕ → List ℕ → List ℕ
-  writtenBy points key message = signWritten (h .set ∷ key) points (joined (masksHeld (p .n) (h .masks))) message (signatureRoom p)
+  writtenBy points key message = signWritten (h .set ∷ key) points (flatten (masksHeld (p .n) (h .masks))) message (signatureRoom p)
 
   abbrev signedWith : List ℕ → List ℕ → List ℕ → Done
   signedWith points key message = afterSigning (chosenIn p (h .set)) (heldIn p h) (answerOf points key message) (writtenBy points key message)

@@ -6,17 +6,21 @@ use borrow.Author.Needs.{needs}
 use Rattle.session_state.proofs.State.{heldOf-set}
 use Rattle.session.specs.Session.{sessionOf}
 use Rattle.session.proofs.Due.{allowed, refuses, ends}
+use Rattle.session.proofs.RowCount.{next-inside}
 use Rattle.session.proofs.step.command_step.Statement.{statement}
 use Rattle.session.proofs.step.command_step.Tie as tie
 
 byte-at-requires : tie.Need-byte-at-requires
 byte-at-requires c κs = search needs
 
+next-ordinal-requires : tie.Need-next-ordinal-requires
+next-ordinal-requires c κs = search needs
+
 refusal-due-requires : tie.Need-refusal-due-requires
 refusal-due-requires c κs = search needs
 
-end-at-requires : tie.Need-end-at-requires
-end-at-requires c κs = search needs
+end-with-requires : tie.Need-end-with-requires
+end-with-requires c κs = search needs
 
 same-length : tie.Need-same-length
 same-length c = search needs
@@ -25,20 +29,20 @@ returns : tie.Need-returns
 unfolding sessionOf
 returns c =
     let d = c .before .before .before .before .before in
-    let a = d .before .before .before .before .args in
+    let a = d .before .before .before .before .before .args in
     let due = d .refusal-due .ensures in
     let chosen = heldOf-set (a .s .held) in
     let refused = refuses (sessionOf (a .s)) (a .file .now) (a .at) (a .s .held .set) chosen (λ z. c .before .before .before .before .if1 .taken (due ∙ z)) in
-    rw (refused, ← due, ← d .before .byte-at .ensures) (c .before .before .end-at .ensures)
+    rw (refused, ← due, ← d .before .before .byte-at .ensures, ← d .before .next-ordinal .ensures) (c .before .before .end-with .ensures)
 
-add-next : tie.Need-add-next
-add-next c = omega (arith, allowed _ _ _ (sym (c .before .before .refusal-due .ensures) ∙ c .before .if1 .left) .inside)
+add-end-number : tie.Need-add-end-number
+add-end-number c = omega (arith, allowed _ _ _ (sym (c .before .before .refusal-due .ensures) ∙ c .before .if1 .left) .inside)
 
 end-number-requires : tie.Need-end-number-requires
 end-number-requires c κs = search needs
 
-end-at-requires-2 : tie.Need-end-at-requires-2
-end-at-requires-2 c κs = search needs
+end-with-requires-2 : tie.Need-end-with-requires-2
+end-with-requires-2 c κs = search needs
 
 same-length-2 : tie.Need-same-length-2
 same-length-2 c = search needs
@@ -48,18 +52,20 @@ unfolding sessionOf
 returns-2 c =
     let e = c .before .before .before .before in
     let d = e .before .before .before in
-    let a = d .before .before .before .before .args in
+    let a = d .before .before .before .before .before .args in
     let due = sym (d .refusal-due .ensures) ∙ e .before .before .if1 .left in
-    let byte = sym (d .before .byte-at .ensures) ∙ e .before .if2 .taken in
+    let byte = sym (d .before .before .byte-at .ensures) ∙ e .before .if2 .taken in
     let ended = ends (sessionOf (a .s)) (a .file .now) (a .at) (a .s .held .set) (heldOf-set (a .s .held)) due byte in
-    rw (ended, ← e .end-number .ensures) (c .before .before .end-at2 .ensures)
+    rw (ended, ← e .end-number .ensures, ← d .before .next-ordinal .ensures) (c .before .before .end-with2 .ensures)
 
 go-on-requires : tie.Need-go-on-requires
 go-on-requires c κs =
     let d = c .before .before .before in
-    let s = d .before .before .before .before in
+    let s = d .before .before .before .before .before in
     let due = sym (d .refusal-due .ensures) ∙ c .before .before .if1 .left in
-    (s .pre .0, (s .pre .1, (due, omega (arith, d .before .byte-at .ensures, c .before .if2 .left))))
+    let next = d .before .next-ordinal .ensures in
+    let inside = next-inside (s .args .s .rows) (s .args .s .place) (s .args .at) (s .pre .1 .1 .0) (s .pre .1 .1 .1) in
+    (s .pre .0, (s .pre .1 .0, (due, (omega (arith, d .before .before .byte-at .ensures, c .before .if2 .left), (next, rw next inside)))))
 
 same-length-3 : tie.Need-same-length-3
 same-length-3 c = search needs
@@ -72,13 +78,14 @@ command-step-spec =
     tie.close
     (tie.spec
     byte-at-requires
+    next-ordinal-requires
     refusal-due-requires
-    end-at-requires
+    end-with-requires
     same-length
     returns
-    add-next
+    add-end-number
     end-number-requires
-    end-at-requires-2
+    end-with-requires-2
     same-length-2
     returns-2
     go-on-requires

@@ -8,24 +8,22 @@ use borrow.Author.Needs.{needs}
 use Rattle.session_state.proofs.State.{heldOf-set}
 use Rattle.session.specs.Session.{sessionOf}
 use Rattle.session.proofs.Due.{allowed, goes}
+use Rattle.session.proofs.RowCount.{rows-kept}
 use Rattle.session.proofs.step.go_on.Statement.{statement}
 use Rattle.session.proofs.step.go_on.Tie as tie
 
 shared-slice-read-byte : tie.Need-shared-slice-read-byte
 shared-slice-read-byte c = allowed _ _ _ (c .before .before .before .pre .1 .1 .0) .inside
 
-wrapping-add-u32-requires : tie.Need-wrapping-add-u32-requires
-wrapping-add-u32-requires c κs = search needs
-
 add-start : tie.Need-add-start
-add-start c = omega (arith, allowed _ _ _ (c .before .before .before .before .pre .1 .1 .0) .inside)
+add-start c = omega (arith, allowed _ _ _ (c .before .before .before .pre .1 .1 .0) .inside)
 
 operand-size-requires : tie.Need-operand-size-requires
 operand-size-requires c κs = search needs
 
 add-end : tie.Need-add-end
 add-end c =
-    omega (arith, c .operand-size .ensures .0, allowed _ _ _ (c .before .before .before .before .before .pre .1 .1 .0) .whole)
+    omega (arith, c .operand-size .ensures .0, allowed _ _ _ (c .before .before .before .before .pre .1 .1 .0) .whole)
 
 sub-run : tie.Need-sub-run
 sub-run c = search needs
@@ -35,15 +33,15 @@ part-run-start c = search needs
 
 part-run-end : tie.Need-part-run-end
 part-run-end c =
-    omega (arith, c .before .operand-size .ensures .0, allowed _ _ _ (c .before .before .before .before .before .before .pre .1 .1 .0) .whole)
+    omega (arith, c .before .operand-size .ensures .0, allowed _ _ _ (c .before .before .before .before .before .pre .1 .1 .0) .whole)
 
 run-requires : tie.Need-run-requires
 run-requires c κs =
     let d = c .before .before .before in
-    let s = d .before .before .before .before .before in
+    let s = d .before .before .before .before in
     let due = allowed _ _ _ (s .pre .1 .1 .0) in
     let size = c .before .run-arg .given .2 ∙ (add-sub-cancel-left (s .args .at + 1) (d .operand-size .result) ∙ d .operand-size .ensures .0) in
-    ((s .pre .1 .1 .1, due .known), (due .needs, (size, s .pre .0)))
+    ((s .pre .1 .1 .1 .0, due .known), (due .needs, (size, s .pre .0)))
 
 same-length : tie.Need-same-length
 same-length c = search needs
@@ -52,20 +50,20 @@ returns : tie.Need-returns
 unfolding sessionOf
 returns c =
     let d = c .before .before .before .before .before .before .before in
-    let s = d .before .before .before .before .before in
+    let s = d .before .before .before .before in
     let a = s .args in
     let ran = rw (add-sub-cancel-left (a .at + 1) (d .operand-size .result)) at (c .before .before .before .run .ensures) in
-    let next = d .before .wrapping-add-u32 .ensures in
+    let kept = rows-kept (a .ordinal) (a .at + 1 + d .operand-size .result) (omega (arith, s .pre .1 .1 .1 .1 .1)) in
+    let next = s .pre .1 .1 .1 .1 .0 in
     let chosen = heldOf-set (a .s .held) in
-    rw (goes (sessionOf (a .s)) (a .file .now) (a .at) (a .s .held .set) chosen (s .pre .1 .1 .0) (d .operand-size .ensures .0) (s .pre .1 .1 .1))
-    (record { session = rw (s .pre .1 .0, next, ran .held); number = ran .number; row = rw next at (ran .row) })
+    rw (goes (sessionOf (a .s)) (a .file .now) (a .at) (a .s .held .set) chosen (s .pre .1 .1 .0) (d .operand-size .ensures .0) (s .pre .1 .1 .1 .0))
+    (record { session = rw (s .pre .1 .0, kept, next, ran .held); number = ran .number; row = rw next at (ran .row) })
 
 pub go-on-spec : {M : Type 1} → statement M
 go-on-spec =
     tie.close
     (tie.spec
     shared-slice-read-byte
-    wrapping-add-u32-requires
     add-start
     operand-size-requires
     add-end

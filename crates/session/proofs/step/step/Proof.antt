@@ -4,6 +4,7 @@ use mathlib.Core.Path.{_≡_}
 use mathlib.Core.Bool.{true, false, not}
 use mathlib.Core.List.{List}
 use Prim.Native.Nat.{ℕ, _≤_, _<_}
+use native.Mathlib.Omega.{arith}
 use lib.ListN.{length}
 use borrow.Author.Needs.{needs}
 use borrow.Author.Tests.{lt-ltb, le-ltb}
@@ -13,26 +14,28 @@ use Rattle.session.proofs.step.step.Statement.{statement}
 use Rattle.session.proofs.step.step.Tie as tie
 
 module _ (s : rules.Session) (file : List ℕ) where
-  later : s .started ≡ true → rules.step s file ≡ rules.commandStep s file (s .place)
+  later : 0 < s .place → rules.step s file ≡ rules.commandStep s file (s .place)
   unfolding rules.step
-  later e = rw e
+  later h = rw (lt-ltb 0 (s .place) h)
 
   -- the first play
-  module _ (first : s .started ≡ false) where
+  module _ (first : s .place ≤ 0) where
     long : 65536 < length file → rules.step s file ≡ rules.endsBefore s 1
     unfolding rules.step
-    long h = rw (first, lt-ltb 65536 (length file) h)
+    long h = rw (le-ltb 0 (s .place) first, lt-ltb 65536 (length file) h)
 
     untagged : length file ≤ 65536 → not (rules.isTagged file) ≡ true → rules.step s file ≡ rules.endsBefore s 15
     unfolding rules.step
-    untagged h e = rw (first, le-ltb 65536 (length file) h, e)
+    untagged h e = rw (le-ltb 0 (s .place) first, le-ltb 65536 (length file) h, e)
 
     tagged : length file ≤ 65536 → not (rules.isTagged file) ≡ false → rules.step s file ≡ rules.commandStep s file 4
     unfolding rules.step
-    tagged h e = rw (first, le-ltb 65536 (length file) h, e)
+    tagged h e = rw (le-ltb 0 (s .place) first, le-ltb 65536 (length file) h, e)
 
 command-step-requires : tie.Need-command-step-requires
-command-step-requires c κs = search needs
+command-step-requires c κs =
+    let s = c .before .before .before .before .before in
+    (s .pre .0, (s .pre .1, (c .before .if1 .taken, omega arith)))
 
 same-length : tie.Need-same-length
 same-length c = search needs
@@ -41,11 +44,11 @@ returns : tie.Need-returns
 unfolding sessionOf
 returns c =
     let b = c .before .before .before .before in
-    let a = b .before .before .before .args in
+    let a = b .before .before .before .before .args in
     rw (later (sessionOf (a .s)) (a .file .now) (b .if1 .taken)) (c .before .before .command-step .ensures)
 
-end-before-requires : tie.Need-end-before-requires
-end-before-requires c κs = search needs
+end-with-requires : tie.Need-end-with-requires
+end-with-requires c κs = search needs
 
 same-length-2 : tie.Need-same-length-2
 same-length-2 c = search needs
@@ -54,14 +57,14 @@ returns-2 : tie.Need-returns-2
 unfolding sessionOf
 returns-2 c =
     let b = c .before .before .before .before in
-    let a = b .before .before .before .before .args in
-    rw (long (sessionOf (a .s)) (a .file .now) (b .before .if1 .left) (b .if2 .taken)) (c .before .before .end-before .ensures)
+    let a = b .before .before .before .before .before .args in
+    rw (long (sessionOf (a .s)) (a .file .now) (b .before .if1 .left) (b .if2 .taken)) (c .before .before .end-with .ensures)
 
 is-tagged-requires : tie.Need-is-tagged-requires
 is-tagged-requires c κs = search needs
 
-end-before-requires-2 : tie.Need-end-before-requires-2
-end-before-requires-2 c κs = search needs
+end-with-requires-2 : tie.Need-end-with-requires-2
+end-with-requires-2 c κs = search needs
 
 same-length-3 : tie.Need-same-length-3
 same-length-3 c = search needs
@@ -71,12 +74,15 @@ unfolding sessionOf
 returns-3 c =
     let t = c .before .before .before .before in
     let b = t .before .before in
-    let a = b .before .before .before .before .args in
+    let a = b .before .before .before .before .before .args in
     let tag = rw (t .before .is-tagged .ensures) at (t .if3 .taken) in
-    rw (untagged (sessionOf (a .s)) (a .file .now) (b .before .if1 .left) (b .if2 .left) tag) (c .before .before .end-before2 .ensures)
+    rw (untagged (sessionOf (a .s)) (a .file .now) (b .before .if1 .left) (b .if2 .left) tag) (c .before .before .end-with2 .ensures)
 
 command-step-requires-2 : tie.Need-command-step-requires-2
-command-step-requires-2 c κs = search needs
+command-step-requires-2 c κs =
+    let first = c .before .before .before .before in
+    let s = first .before .before .before .before in
+    (s .pre .0, (s .pre .1, (omega arith, omega (arith, first .if1 .left))))
 
 same-length-4 : tie.Need-same-length-4
 same-length-4 c = search needs
@@ -86,7 +92,7 @@ unfolding sessionOf
 returns-4 c =
     let t = c .before .before .before .before in
     let b = t .before .before in
-    let a = b .before .before .before .before .args in
+    let a = b .before .before .before .before .before .args in
     let tag = rw (t .before .is-tagged .ensures) at (t .if3 .left) in
     rw (tagged (sessionOf (a .s)) (a .file .now) (b .before .if1 .left) (b .if2 .left) tag) (c .before .before .command-step2 .ensures)
 
@@ -97,11 +103,11 @@ step-spec =
     command-step-requires
     same-length
     returns
-    end-before-requires
+    end-with-requires
     same-length-2
     returns-2
     is-tagged-requires
-    end-before-requires-2
+    end-with-requires-2
     same-length-3
     returns-3
     command-step-requires-2

@@ -1,10 +1,10 @@
--- `end_before` meets its contract: the row is written with ordinal and byte 0.
+-- `end_with` meets its contract: the row is written, and of the session only the end changes.
 -- Assumes nothing.
 use mathlib.Core.Path.{refl}
 use borrow.Author.Needs.{needs}
 use Rattle.session.specs.Session.{sessionOf}
-use Rattle.session.proofs.step.end_before.Statement.{statement}
-use Rattle.session.proofs.step.end_before.Tie as tie
+use Rattle.session.proofs.step.end_with.Statement.{statement}
+use Rattle.session.proofs.step.end_with.Tie as tie
 
 write-plain-requires : tie.Need-write-plain-requires
 write-plain-requires c κs = search needs
@@ -16,5 +16,5 @@ returns : tie.Need-returns
 unfolding sessionOf
 returns c = record { session = refl; number = refl; row = c .before .before .write-plain .ensures }
 
-pub end-before-spec : {M : Type 1} → statement M
-end-before-spec = tie.close (tie.spec write-plain-requires same-length returns)
+pub end-with-spec : {M : Type 1} → statement M
+end-with-spec = tie.close (tie.spec write-plain-requires same-length returns)

@@ -1,0 +1,22 @@
+-- Lists of plays of one file, and the sessions that plays lead to.
+-- Assumes nothing.
+use mathlib.Core.Bool.{Bool}
+use mathlib.Core.List.{List, [], _∷_}
+use Prim.Native.Nat.{ℕ}
+use lib.Dec.{eqb}
+use lib.ListN.{length}
+use Rattle.session_rules.specs.Play.{Session, opened, play}
+
+-- a row buffer of 16,384 bytes
+abbrev pub isRight : List ℕ → Bool
+isRight buffer = eqb (length buffer) 16384
+
+-- the session after plays of one file, each lent a row buffer: the first play is handed s, each further one the session that the last returned
+unfoldable pub after : Session → List ℕ → List (List ℕ) → Session
+after s file [] = s
+after s file (buffer ∷ buffers) = after (play s file buffer .session) file buffers
+
+-- a session comes from opening it and changes only by playing it, whatever file and row buffer each play is lent
+pub data Reachable : Session → Type 0 where
+  just-opened : Reachable opened
+  once-more : {s : Session} → Reachable s → (file buffer : List ℕ) → Reachable (play s file buffer .session)
