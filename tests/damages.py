@@ -185,9 +185,9 @@ def equal_entries(rng, s, entries):
     entries[i + 1] = entries[i] ^ rng.choice((0, 0x8000))
 
 
-def index_at(place_of_entry, index):
+def index_at(at, index):
     def to_index(rng, s, entries):
-        entries[place_of_entry] = index(s) | rng.choice((0, 0x8000))
+        entries[at] = index(s) | rng.choice((0, 0x8000))
     return to_index
 
 
@@ -222,7 +222,6 @@ def entry_lists():
     def change(change_list):
         def changed(rng, s, arguments):
             if len(arguments["entries"]) == s.b:
-                arguments["entries"] = list(arguments["entries"])
                 change_list(rng, s, arguments["entries"])
         return changed
     return {label: change(change_list) for label, change_list in ENTRIES.items()}
