@@ -1,7 +1,7 @@
 -- The worked cases of document 01 in set 0, from the definitions that the entries' contracts cite: rows of one table, checked by one test.
 -- Assumes nothing.
 use mathlib.Core.Bool.{Bool, true, false, _&&_, not}
-use mathlib.Core.List.{List, [], _∷_, _++_, map}
+use mathlib.Core.List.{List, [], _∷_, _++_, map, flatten}
 use Prim.Native.Nat.{ℕ, zero, suc, _-_}
 use lib.Dec.{T, eqb}
 use lib.IntN.{ℤ, pos, negsuc}
@@ -80,5 +80,5 @@ holds (reaches f c y z inside) = equal (point f c y) z && sameBool (within (setO
 holds (encodes c z xs) = sameNumbers (signatureOf 0 (record { c = c; z = z })) xs
 
 pub worked-cases : T (all holds cases)
-unfolding holds cases pool poly minus sameNumbers sameBool drawRefusal setOf sets evaluations evaluation draw kept withValue valueAt signAt placed signatureOf signatureBytes encoded bigEndian
+unfolding holds cases pool poly minus sameNumbers sameBool drawRefusal setOf sets evaluations evaluation draw kept withValue valueAt signAt placed signatureOf signatureBytes encoded bigEndian flatten
 worked-cases = tt

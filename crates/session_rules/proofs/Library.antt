@@ -50,32 +50,35 @@ module _ (p : Params) where
         (and-right (eqb (length y) (p .n)) (within (p .k) y) m, and-right (isMask p y) (all (isMask p) ys) t),
       )
 
-  joined-length : (ys : List (List ℤ)) → T (all (isMask p) ys) → length (flatten ys) ≡ length ys * p .n
-  joined-length [] t = sym (zero-mul (p .n))
-  joined-length (y ∷ ys) t =
+  flatten-length : (ys : List (List ℤ)) → T (all (isMask p) ys) → length (flatten ys) ≡ length ys * p .n
+  unfolding flatten
+  flatten-length [] t = sym (zero-mul (p .n))
+  flatten-length (y ∷ ys) t =
       let (size, (small, rest)) = first-mask y ys t in
-      length-append y (flatten ys) ∙ omega (arith, size, joined-length ys rest, suc-mul (length ys) (p .n))
+      length-append y (flatten ys) ∙ omega (arith, size, flatten-length ys rest, suc-mul (length ys) (p .n))
 
-  joined-within : (ys : List (List ℤ)) → T (all (isMask p) ys) → T (within (p .k) (flatten ys))
-  joined-within [] t = tt
-  joined-within (y ∷ ys) t =
+  flatten-within : (ys : List (List ℤ)) → T (all (isMask p) ys) → T (within (p .k) (flatten ys))
+  unfolding flatten
+  flatten-within [] t = tt
+  flatten-within (y ∷ ys) t =
       let (size, (small, rest)) = first-mask y ys t in
-      rw (all-append (λ (a : ℤ). leb (natAbs a) (p .k)) y (flatten ys)) (and-intro (within (p .k) y) (within (p .k) (flatten ys)) small (joined-within ys rest))
+      rw (all-append (λ (a : ℤ). leb (natAbs a) (p .k)) y (flatten ys)) (and-intro (within (p .k) y) (within (p .k) (flatten ys)) small (flatten-within ys rest))
 
   -- mask number i
-  pub joined-at : (ys : List (List ℤ)) (i : ℕ) → T (all (isMask p) ys) → i < length ys → maskAt p (flatten ys) i ≡ getD ys i []
-  joined-at [] i t h = absurd (omega arith)
-  joined-at (y ∷ ys) zero t h = rw (zero-mul (p .n)) (take-at y (flatten ys) (p .n) (first-mask y ys t .0))
-  joined-at (y ∷ ys) (suc i) t h =
+  pub flatten-at : (ys : List (List ℤ)) (i : ℕ) → T (all (isMask p) ys) → i < length ys → maskAt p (flatten ys) i ≡ getD ys i []
+  unfolding flatten
+  flatten-at [] i t h = absurd (omega arith)
+  flatten-at (y ∷ ys) zero t h = rw (zero-mul (p .n)) (take-at y (flatten ys) (p .n) (first-mask y ys t .0))
+  flatten-at (y ∷ ys) (suc i) t h =
       let (size, (small, rest)) = first-mask y ys t in
       let e : suc i * p .n ≡ p .n + i * p .n = omega (arith, suc-mul i (p .n)) in
       ap (λ (k : ℕ). take (p .n) (drop k (y ++ flatten ys))) e
       ∙ ap (take (p .n)) (sym (drop-drop (i * p .n) (p .n) (y ++ flatten ys)) ∙ ap (drop (i * p .n)) (drop-at y (flatten ys) (p .n) size))
-      ∙ joined-at ys i rest (omega arith)
+      ∙ flatten-at ys i rest (omega arith)
 
-  joined-masks : (ys : List (List ℤ)) → T (all (isMask p) ys) → length ys ≤ 8 → areMasks p (flatten ys) ≡ true
-  joined-masks ys t few =
-      let l = joined-length ys t in
+  masks-flattened : (ys : List (List ℤ)) → T (all (isMask p) ys) → length ys ≤ 8 → areMasks p (flatten ys) ≡ true
+  masks-flattened ys t few =
+      let l = flatten-length ys t in
       holds-true (areMasks p (flatten ys))
       (and-intro (eqb (length (flatten ys) % p .n) 0) (leb (length (flatten ys)) (8 * p .n))
       (true-holds (eq-eqb (length (flatten ys) % p .n) 0 (ap (λ (k : ℕ). k % p .n) l ∙ mul-mod-left (length ys) (p .n))))
@@ -101,11 +104,11 @@ module _ (s : ℕ) (known : s < 5) where
     allowed = sign-allowed p (s ∷ key) points (flatten masks) (length (signatureRoom p)) .1 (record {
       key-size = omega (arith, k .size);
       points-size = j .size;
-      masks-size = joined-masks p masks t few;
+      masks-size = masks-flattened p masks t few;
       room-size = length-replicate (signatureSize p) 0;
       points-rise = j .rise;
       ternary = k .bytes;
-      small = holds-true (within (p .k) (flatten masks)) (joined-within p masks t);
+      small = holds-true (within (p .k) (flatten masks)) (flatten-within p masks t);
     })
 
     pub sign-refused : (n : ℕ) → signAnswer (s ∷ key) points (flatten masks) message (signatureRoom p) ≡ signing.Refused n → n ≡ 9
