@@ -21,7 +21,7 @@ use Rattle.answers.specs.declared.Verdict.the-variants as verdict
 use Rattle.answers.specs.Answer.{setByte}
 use Rattle.entry_sign.specs.Sign.{signAnswerIn, signWrittenIn, signAnswer, signWritten}
 use Rattle.entry_check.specs.Check.{checkRefusalIn, checkAnswerIn, checkAnswer}
-use Rattle.passign.specs.Keys.{publicKeyRefusal, publicKeyIn, publicKeyWritten}
+use Rattle.entry_values.specs.Keys.{publicKeyRefusal, publicKeyIn, publicKeyWritten}
 use Rattle.passign.specs.VerdictRule.{Rule}
 use Rattle.passign.specs.Hiding.{Encodable}
 use Rattle.answers.proofs.Apart.{refused-not-signed, refused-not-yes}

@@ -17,7 +17,7 @@ use Rattle.answers.specs.declared.Verdict.the-variants as verdict
 use Rattle.answers.specs.Answer.{setByte, isLong}
 use Rattle.entry_sign.specs.Sign.{signAnswerIn, signWrittenIn, signAnswer, signWritten}
 use Rattle.entry_check.specs.Check.{checkAnswerIn, checkAnswer}
-use Rattle.passign.specs.Keys.{publicKeyRefusal, publicKeyIn, publicKeyWritten}
+use Rattle.entry_values.specs.Keys.{publicKeyRefusal, publicKeyIn, publicKeyWritten}
 use Rattle.passign.specs.Known.{Known, KnownBoth}
 use Rattle.answers.proofs.Refusal.{passed, passed-not, equal-iff}
 

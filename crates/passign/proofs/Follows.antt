@@ -14,7 +14,7 @@ use Rattle.answers.specs.declared.Signing.the-variants as signing
 use Rattle.answers.specs.declared.Verdict.the-variants as verdict
 use Rattle.answers.specs.Answer.{setByte}
 use Rattle.entry_check.specs.Check.{checkAnswerIn, checkAnswer}
-use Rattle.passign.specs.Keys.{publicKeyIn}
+use Rattle.entry_values.specs.Keys.{publicKeyIn}
 use Rattle.passign.specs.Known.{Known}
 use Rattle.passign.specs.Hiding.{Encodable, offeredAlone, Library, signsIn, writesIn, anyLibrary, entries, Made, paramsOf, Accepted, OtherKey}
 use Rattle.answers.proofs.Apart.{refused-not-signed}

@@ -11,7 +11,7 @@ use Rattle.encoding.specs.Encoding.{publicKey}
 use Rattle.scheme.specs.Scheme.{Drawer}
 use Rattle.scheme.specs.Hiding.{ExactlyOne}
 use Rattle.scheme.proofs.ExactlyOne.{exactly-one}
-use Rattle.passign.specs.Keys.{publicKeyIn}
+use Rattle.entry_values.specs.Keys.{publicKeyIn}
 use Rattle.passign.specs.Hiding.{Encodable, Library, anyLibrary, entries, Made, paramsOf, Accepted, OtherKey, Same, SaysYes, maskFor}
 use Rattle.passign.proofs.Follows.{Follows, any-follows, entries-follow}
 use Rattle.passign.proofs.OtherMask.{same-iff}

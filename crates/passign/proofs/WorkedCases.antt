@@ -17,7 +17,7 @@ use Rattle.encoding.specs.Bytes.{bigEndian, encoded}
 use Rattle.encoding.specs.Encoding.{signatureBytes}
 use Rattle.scheme.specs.Scheme.{equal, isDrawn}
 use Rattle.signer.specs.Signer.{signatureOf}
-use Rattle.passign.specs.Draw.{drawRefusal}
+use Rattle.entry_values.specs.Draw.{drawRefusal}
 
 -- a row: what is given, and what document 01 says comes of it
 pub data Case : Type 0 where

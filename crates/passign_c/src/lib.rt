@@ -2,9 +2,9 @@
 ghost use mathlib.Core.Path.{_≡_};
 ghost use Rattle.answers.specs.Answer.{numberOf, signingNumber, verdictNumber};
 ghost use Rattle.entry_check.specs.Check.{checkAnswer};
-ghost use Rattle.passign.specs.Draw.{drawRefusal, drawWritten};
-ghost use Rattle.passign.specs.Evaluate.{evaluateRefusal, evaluateWritten};
-ghost use Rattle.passign.specs.Keys.{publicKeyRefusal, publicKeyWritten};
+ghost use Rattle.entry_values.specs.Draw.{drawRefusal, drawWritten};
+ghost use Rattle.entry_values.specs.Evaluate.{evaluateRefusal, evaluateWritten};
+ghost use Rattle.entry_values.specs.Keys.{publicKeyRefusal, publicKeyWritten};
 ghost use Rattle.entry_sign.specs.Sign.{signAnswer, signWritten};
 use passign::Answer;
 use passign::Signing;

@@ -10,9 +10,9 @@ ghost use Rattle.entry_check.specs.Check.{checkAnswer};
 ghost use Rattle.session_rules.specs.Commands.{check};
 ghost use Rattle.session_state.specs.State.{hasPoints, chosenIn, heldIn};
 ghost use Rattle.session_state.specs.Ran.{Ran};
+use answers::Verdict;
 use layout::put_public_key;
 use parameters::Params;
-use passign::Verdict;
 use session_rows::write_judged;
 use session_rows::write_plain;
 use session_state::Done;
@@ -58,7 +58,7 @@ fn judge(p: Params, h: Held, operand: &[u8]) -> Verdict
     let text = message.bytes;
     let key = key_held(p, h);
     let signature = with_set(h.set, operand);
-    passign::checking::check(&key[..key_size], &text, &signature[..size])
+    entry_check::check(&key[..key_size], &text, &signature[..size])
 }
 
 // 07, with its row. Whatever it says, what is held stays.

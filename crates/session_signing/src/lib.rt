@@ -14,8 +14,8 @@ ghost use Rattle.session_rules.specs.Held.{withMasks};
 ghost use Rattle.session_rules.specs.Commands.{refused, signatureRoom, sign};
 ghost use Rattle.session_state.specs.State.{hasPoints, masksHeld, chosenIn, heldIn};
 ghost use Rattle.session_state.specs.Ran.{InSet, Ran};
+use answers::Signing;
 use parameters::Params;
-use passign::Signing;
 use session_rows::write_plain;
 use session_rows::write_signed;
 use session_state::Done;
@@ -68,7 +68,7 @@ fn make(p: Params, h: Held) -> Made
     let text = h.message.bytes;
     let secret = secret_held(p, h);
     let mut out = [0u8; 2435];
-    let answer = passign::sign::sign(
+    let answer = entry_sign::sign(
         &secret[..key_size],
         &list[..t],
         &numbers[..used],

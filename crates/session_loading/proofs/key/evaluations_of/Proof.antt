@@ -14,7 +14,7 @@ use Rattle.parameters.specs.Sets.{setOf}
 use Rattle.parameters.specs.Sound.{Fitting}
 use Rattle.polynomial.specs.Evaluation.{evaluation, evaluations}
 use Rattle.encoding.specs.Encoding.{keyCoefficient, arePoints}
-use Rattle.passign.specs.Evaluate.{evaluateRefusalIn, evaluateRefusal, evaluateWritten}
+use Rattle.entry_values.specs.Evaluate.{evaluateRefusalIn, evaluateRefusal, evaluateWritten}
 use Rattle.parameters.proofs.Lookup.{lookup-fitting}
 use Rattle.session_state.proofs.InFront.{InFront, stored, points-lent}
 use Rattle.session_state.proofs.Room.{points-room}

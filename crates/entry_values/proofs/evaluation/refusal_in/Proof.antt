@@ -3,9 +3,9 @@
 use mathlib.Core.Path.{sym, _∙_}
 use borrow.Author.Needs.{needs}
 use borrow.Author.Tests.{eq-eqb, ne-eqb}
-use Rattle.passign.specs.Evaluate.{evaluateRefusalIn}
-use Rattle.passign.proofs.evaluation.refusal_in.Statement.{statement}
-use Rattle.passign.proofs.evaluation.refusal_in.Tie as tie
+use Rattle.entry_values.specs.Evaluate.{evaluateRefusalIn}
+use Rattle.entry_values.proofs.evaluation.refusal_in.Statement.{statement}
+use Rattle.entry_values.proofs.evaluation.refusal_in.Tie as tie
 
 returns : tie.Need-returns
 unfolding evaluateRefusalIn

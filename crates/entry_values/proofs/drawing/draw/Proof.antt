@@ -10,10 +10,10 @@ use lib.Seq.{length-take-le}
 use borrow.Author.Needs.{needs}
 use borrow.Author.Tests.{lt-ltb, le-ltb, eq-eqb, ne-eqb, not-true, not-false}
 use Rattle.algebra.proofs.Test.{and-left, true-holds}
-use Rattle.passign.specs.Draw.{isPoolSize, drawRefusal, drawWritten}
+use Rattle.entry_values.specs.Draw.{isPoolSize, drawRefusal, drawWritten}
 use Rattle.parameters.proofs.Lookup.{lookup-fitting}
-use Rattle.passign.proofs.drawing.draw.Statement.{statement}
-use Rattle.passign.proofs.drawing.draw.Tie as tie
+use Rattle.entry_values.proofs.drawing.draw.Statement.{statement}
+use Rattle.entry_values.proofs.drawing.draw.Tie as tie
 
 -- a pool has room for the signs
 pool-signs : (n : ℕ) → isPoolSize n ≡ true → 8 ≤ n

@@ -1,8 +1,8 @@
 -- `drawing::is_pool_size` meets its contract: each answer by its tests.
 -- Assumes nothing.
 use borrow.Author.Tests.{le-leb, lt-leb}
-use Rattle.passign.proofs.drawing.is_pool_size.Statement.{statement}
-use Rattle.passign.proofs.drawing.is_pool_size.Tie as tie
+use Rattle.entry_values.proofs.drawing.is_pool_size.Statement.{statement}
+use Rattle.entry_values.proofs.drawing.is_pool_size.Tie as tie
 
 returns : tie.Need-returns
 returns c = rw (lt-leb 64 _ (c .if1 .taken))

@@ -10,8 +10,8 @@ use mir.Syntax.{w8}
 use mir.Facts.{toZ-ofZ}
 use borrow.Author.Needs.{needs}
 use Rattle.algebra.proofs.List.{copy-more}
-use Rattle.passign.proofs.drawing.copy.Statement.{statement}
-use Rattle.passign.proofs.drawing.copy.Tie as tie
+use Rattle.entry_values.proofs.drawing.copy.Statement.{statement}
+use Rattle.entry_values.proofs.drawing.copy.Tie as tie
 
 abbrev Inv-loop : tie.InvT-loop
 Inv-loop c out₀ i₀ out i = (i ≤ length c) × (length out ≡ length out₀) × (take i out ≡ take i c)

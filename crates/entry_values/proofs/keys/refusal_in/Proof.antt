@@ -5,10 +5,10 @@ use borrow.Author.Needs.{needs}
 use borrow.Author.Tests.{eq-eqb, ne-eqb, not-true, not-false}
 use Rattle.algebra.specs.All.{all}
 use Rattle.encoding.specs.Encoding.{isKeyByte, isKey}
-use Rattle.passign.specs.Keys.{publicKeyRefusalIn}
+use Rattle.entry_values.specs.Keys.{publicKeyRefusalIn}
 use Rattle.encoding.proofs.Parts.{rest}
-use Rattle.passign.proofs.keys.refusal_in.Statement.{statement}
-use Rattle.passign.proofs.keys.refusal_in.Tie as tie
+use Rattle.entry_values.proofs.keys.refusal_in.Statement.{statement}
+use Rattle.entry_values.proofs.keys.refusal_in.Tie as tie
 
 add-if1 : tie.Need-add-if1
 add-if1 c = search needs

@@ -11,8 +11,8 @@ use borrow.Author.Needs.{needs}
 use Rattle.polynomial.specs.Evaluation.{evaluation, evaluations}
 use Rattle.parameters.proofs.Lookup.{lookup-fitting}
 use Rattle.layout.proofs.Evaluating.{lookup-evaluable, points-below}
-use Rattle.passign.proofs.keys.evaluations_of.Statement.{statement}
-use Rattle.passign.proofs.keys.evaluations_of.Tie as tie
+use Rattle.entry_values.proofs.keys.evaluations_of.Statement.{statement}
+use Rattle.entry_values.proofs.keys.evaluations_of.Tie as tie
 
 coefficients-of-requires : tie.Need-coefficients-of-requires
 coefficients-of-requires c κs =

@@ -12,13 +12,13 @@ use borrow.Author.Needs.{needs}
 use borrow.Author.Tests.{lt-ltb, le-ltb}
 use Rattle.parameters.specs.declared.Params.{Params}
 use Rattle.encoding.specs.Encoding.{arePoints}
-use Rattle.passign.specs.Evaluate.{evaluateRefusalIn, evaluateRefusal, evaluateWritten}
+use Rattle.entry_values.specs.Evaluate.{evaluateRefusalIn, evaluateRefusal, evaluateWritten}
 use Rattle.parameters.proofs.Lookup.{lookup-fitting}
 use Rattle.layout.proofs.Evaluating.{lookup-evaluable, points-below}
 use Rattle.answers.proofs.Refusal.{step}
 use Rattle.answers.proofs.Answering.{refused, kept, passed-equal}
-use Rattle.passign.proofs.evaluation.evaluate.Statement.{statement}
-use Rattle.passign.proofs.evaluation.evaluate.Tie as tie
+use Rattle.entry_values.proofs.evaluation.evaluate.Statement.{statement}
+use Rattle.entry_values.proofs.evaluation.evaluate.Tie as tie
 
 -- a call that is not refused: N coefficients, t points, room for t evaluations, exponents that rise
 allowed : (p : Params) (size : ℕ) (points : List ℕ) (room : ℕ) → evaluateRefusalIn p size points room ≡ 0

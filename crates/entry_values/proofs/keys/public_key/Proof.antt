@@ -12,12 +12,12 @@ use borrow.Author.Needs.{needs}
 use borrow.Author.Tests.{lt-ltb, le-ltb, eq-eqb, ne-eqb}
 use Rattle.parameters.specs.declared.Params.{Params}
 use Rattle.encoding.specs.Encoding.{secretKeySize, publicKeySize, arePoints, publicKey}
-use Rattle.passign.specs.Keys.{publicKeyRefusalIn, publicKeyRefusal, publicKeyIn, publicKeyWritten}
+use Rattle.entry_values.specs.Keys.{publicKeyRefusalIn, publicKeyRefusal, publicKeyIn, publicKeyWritten}
 use Rattle.parameters.proofs.Lookup.{lookup-fitting}
 use Rattle.answers.proofs.Refusal.{step}
 use Rattle.answers.proofs.Answering.{refused, kept, passed-equal}
-use Rattle.passign.proofs.keys.public_key.Statement.{statement}
-use Rattle.passign.proofs.keys.public_key.Tie as tie
+use Rattle.entry_values.proofs.keys.public_key.Statement.{statement}
+use Rattle.entry_values.proofs.keys.public_key.Tie as tie
 
 -- a call that is not refused: the lengths of the set, and exponents that rise
 allowed : (p : Params) (key points : List ℕ) (room : ℕ) → publicKeyRefusalIn p key points room ≡ 0
