@@ -10,8 +10,8 @@ use lib.Dec.{ltb, leb, eqb}
 use lib.ListN.{length}
 use borrow.Author.Tests.{ltb-false, eqb-false, not-false}
 use Rattle.algebra.proofs.Test.{pick-by}
-use Rattle.session_rules.specs.Commands.{isKnown, needsSet, command}
-use Rattle.session_rules.specs.Play.{Session, Step, isTagged, lacksSet, endsBefore, endsAt, goesOn, byteDue, sizeDue, operandDue, endCommand, commandStep, step}
+use Rattle.session_rules.specs.Commands.{isKnown, needsSet}
+use Rattle.session_rules.specs.Play.{Session, Step, isTagged, lacksSet, endsBefore, endsAt, byteDue, sizeDue, endCommand, goingCommand, commandStep, step}
 use Rattle.session_rules.specs.Ordinals.{BeforeFirst}
 use Rattle.session_rules.specs.Refusals.{isEnding}
 
@@ -29,15 +29,11 @@ pub record Goes (s : Session) (file : List ℕ) (at : ℕ) : Type 0 where
   pub needs : needsSet (byteDue s file at) && lacksSet (s .held .set) ≡ false
   pub whole : at + 1 + sizeDue s file at ≤ length file
 
-abbrev pub going : Session → List ℕ → ℕ → Step
-going s file at =
-    goesOn s (at + 1 + sizeDue s file at) (byteDue s file at) (operandDue s file at) (command (s .held) (byteDue s file at) (operandDue s file at))
-
 module _ (s : Session) (file : List ℕ) (P : Step → Type 0)
     (before : (n : ℕ) → EndsBy n → BeforeFirst s (endsBefore s n) → P (endsBefore s n))
     (refuses : (byte n : ℕ) → EndsBy n → P (endsAt s byte n))
     (finishes : P (endsAt s 0 0))
-    (goes : (at : ℕ) → Goes s file at → P (going s file at)) where
+    (goes : (at : ℕ) → Goes s file at → P (goingCommand s file at)) where
   command-by : (at : ℕ) → s .place ≤ at → P (commandStep s file at)
   unfolding commandStep
   command-by at later =

@@ -1,5 +1,6 @@
 -- Every file is taken to its end: from a session just opened, played with row buffers of 16,384 bytes, the session has ended after at most as many plays as
--- the file has bytes and one more. Each play, whatever the session and the file, ends the session or moves its place forward.
+-- the file has bytes and one more. Each play, whatever the session and the file, ends the session or moves its place forward; so only the first
+-- play is at place 0.
 -- Assumes nothing.
 use mathlib.Core.Path.{_≡_}
 use mathlib.Core.Bool.{true}

@@ -12,18 +12,18 @@ use Rattle.algebra.specs.Choice.{pick}
 use Rattle.session_rules.specs.Held.{withMasks}
 use Rattle.session_rules.specs.Commands.{Payload, nothing, command}
 use Rattle.session_rules.specs.Rows.{decimal, hex, spaced, payloadText, rowText}
-use Rattle.session_rules.specs.Play.{Session, Step, endsWith, endsAt, byteDue, sizeDue, operandDue, step, rowOf}
+use Rattle.session_rules.specs.Play.{Session, Step, endsWith, endsAt, byteDue, sizeDue, operandDue, goingCommand, step, rowOf}
 use Rattle.session_rules.specs.Refusals.{isEnding}
 use Rattle.session_rules.specs.Plays.{Material, paramsIn, withAccepted, withCommand}
 use Rattle.session_rules.specs.HeldIsRead.{Available, availableWithAccepted, availableWith, HeldIsRead}
 use Rattle.session_rules.proofs.Fits.{Fits}
 use Rattle.session_rules.proofs.Text.{length-decimal, length-hex}
 use Rattle.session_rules.proofs.Playing.{played, SignedWith, does}
-use Rattle.session_rules.proofs.Cases.{EndsBy, Goes, going, step-by}
+use Rattle.session_rules.proofs.Cases.{EndsBy, Goes, step-by}
 
 -- what a play that writes a row does to the session s
 pub record Steps (t : Material) (av : Available) (s : Session) (x : Step) : Type 0 where
-  -- what is held is what is told
+  -- what is held is what is read
   pub reads : HeldIsRead (withCommand t (played (x .byte) (x .operand) (x .number))) (availableWith t av (played (x .byte) (x .operand) (x .number))) (x .session .held)
   pub fits : Fits (paramsIn (withCommand t (played (x .byte) (x .operand) (x .number)))) (availableWith t av (played (x .byte) (x .operand) (x .number))) (x .session .held)
   -- an accepted 06 signs with it
@@ -86,7 +86,7 @@ module _ (t : Material) (av : Available) (s : Session) (reads : HeldIsRead t av 
     operand-whole : (at : ℕ) → at + 1 + sizeDue s file at ≤ length file → length (operandDue s file at) ≡ sizeDue s file at
     operand-whole at h = length-take-le (sizeDue s file at) (drop (at + 1) file) (omega (arith, length-drop (at + 1) file))
 
-    goes-on : (at : ℕ) → Goes s file at → Steps t av s (going s file at)
+    goes-on : (at : ℕ) → Goes s file at → Steps t av s (goingCommand s file at)
     goes-on at g =
         let b = byteDue s file at in
         let d = does t av (s .held) reads fits (operandDue s file at) b (omega (arith, g .nonzero)) (ltb-true b 9 (g .known)) (g .needs) (operand-whole at (g .whole)) in

@@ -89,6 +89,10 @@ module _ (s : Session) where
     abbrev pub endCommand : Step
     endCommand = endsAt 0 (pick (eqb (length file) (at + 1)) 0 16)
 
+    -- any other command goes on
+    abbrev pub goingCommand : Step
+    goingCommand = goesOn (at + 1 + sizeDue) byteDue operandDue (command (s .held) byteDue operandDue)
+
     -- the command due there: 13 (byte 00) where the file ends, 14, 3, 13 inside an operand, then its own
     unfoldable pub commandStep : Step
     commandStep =
@@ -96,8 +100,7 @@ module _ (s : Session) where
         (pick (not (isKnown byteDue)) (endsAt byteDue 14)
         (pick (needsSet byteDue && lacksSet (s .held .set)) (endsAt byteDue 3)
         (pick (ltb (length file) (at + 1 + sizeDue)) (endsAt byteDue 13)
-        (pick (eqb byteDue 0) endCommand
-        (goesOn (at + 1 + sizeDue) byteDue operandDue (command (s .held) byteDue operandDue))))))
+        (pick (eqb byteDue 0) endCommand goingCommand))))
 
   -- the first play, at place 0, tests the length and the tag, and then plays the first command
   unfoldable pub step : List ℕ → Step

@@ -12,7 +12,7 @@ unfoldable pub digits : ℕ → ℕ → List ℕ
 digits zero n = (48 + n % 10) ∷ []
 digits (suc more) n = pick (ltb n 10) ((48 + n % 10) ∷ []) (digits more (n / 10) ++ ((48 + n % 10) ∷ []))
 
--- n below 10 to the 20, in decimal
+-- n below 10 to the 20, in decimal: every count of 64 bits
 abbrev pub decimal : ℕ → List ℕ
 decimal n = digits 19 n
 
