@@ -31,15 +31,15 @@ static void compare(const char *name, void (*first)(void), void (*second)(void))
 }
 
 static void plain_long(void) { plain_sha512(message, 65535, plain.digest); }
-static void ours_long(void) { bench_sha512(message, 65535, ours.digest); }
+static void ours_long(void) { harness_sha512(message, 65535, ours.digest); }
 static void plain_short(void) { plain_sha512(message, 664, plain.digest); }
-static void ours_short(void) { bench_sha512_of_two(message, 600, message + 600, 64, ours.digest); }
+static void ours_short(void) { harness_sha512_of_two(message, 600, message + 600, 64, ours.digest); }
 static void plain_evaluates(void) { plain_evaluate(in_use(), powers, masks[0], points, in_use()->t, plain.values); }
 static void ours_evaluates(void) { passign_evaluate(set, masks[0], in_use()->n, points, in_use()->t, ours.values, in_use()->t); }
 static void plain_draws(void) { plain_draw(in_use(), pool, plain.challenge); }
 static void ours_draws(void) { passign_draw(set, pool, sizeof pool, ours.challenge, in_use()->n); }
 static void plain_points(void) { plain_point(in_use(), key, plain.challenge, masks[0], plain.z); }
-static void ours_points(void) { bench_point(key, in_use()->n, ours.challenge, in_use()->n, masks[0], in_use()->n, ours.z, in_use()->n); }
+static void ours_points(void) { harness_point(key, in_use()->n, ours.challenge, in_use()->n, masks[0], in_use()->n, ours.z, in_use()->n); }
 static void plain_signs(void) { plain.answer = 256 * plain_sign(in_use(), powers, secret_key, points, masks[0], message, 64, plain.signature); }
 static void ours_signs(void) { ours.answer = sign_with(masks[0], ours.signature); }
 static void plain_checks(void) { plain.answer = 256 * plain_check(in_use(), powers, public_key, message, 64, signatures[0]); }

@@ -1,13 +1,14 @@
-/* The functions of crate harness. Each slice is a pointer and its length in elements. */
+/* The functions of crate harness, for tests/ and bench/ alone. A slice is a pointer and its length in elements. Nothing checks what they ask: `out` has 64
+   bytes; f, c, y and z have one length, at most 1,153, and f and c only -1, 0 and 1; `plays` has four numbers for each answer. */
 #ifndef HARNESS_H
 #define HARNESS_H
 #include <stddef.h>
 #include <stdint.h>
 
-void bench_sha512(const uint8_t *message, size_t size, uint8_t *digest);
-void bench_sha512_of_two(const uint8_t *first, size_t first_size, const uint8_t *second, size_t second_size, uint8_t *digest);
-void bench_point(const int16_t *f, size_t f_size, const int8_t *c, size_t c_size, const int16_t *y, size_t y_size, int32_t *z, size_t z_size);
-void harness_plays(const uint8_t *files, size_t files_size, const uint32_t *plays, size_t plays_size, uint8_t *memory, size_t memory_size, uint32_t *answers,
-                   size_t answers_size);
+void harness_sha512(const uint8_t *message, size_t message_length, uint8_t *out);
+void harness_sha512_of_two(const uint8_t *first, size_t first_length, const uint8_t *second, size_t second_length, uint8_t *out);
+void harness_point(const int16_t *f, size_t f_length, const int8_t *c, size_t c_length, const int16_t *y, size_t y_length, int32_t *z, size_t z_length);
+void harness_plays(const uint8_t *files, size_t files_length, const uint32_t *plays, size_t plays_length, uint8_t *memory, size_t memory_length,
+                   uint32_t *answers, size_t answers_length);
 
 #endif

@@ -12,9 +12,9 @@
 
    Encodings, numbers of several bytes with the high byte first:
      secret key   the set, then N bytes: 00, 01, or FF for -1
-     public key   the set, t exponents of two bytes, t evaluations of three bytes
-     signature    the set, b challenge entries of two bytes (the index in the low 15 bits, top bit 1 for -1), N coefficients of z in two bytes,
-                  two's complement
+     public key   the set, t exponents of two bytes, strictly increasing in 1..N-1, t evaluations of three bytes
+     signature    the set, b challenge entries of two bytes, by strictly increasing index (in the low 15 bits; top bit 1 for -1), N coefficients of z
+                  in two bytes, two's complement
 
    Set 0 is for work by hand: about one wrong message in forty gets a yes there. Do not mark with it.
 

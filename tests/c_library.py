@@ -1,13 +1,11 @@
-"""The kit's static library: built, linked into a shared object, and called with guarded buffers."""
+"""The kit's library, as a shared object, called with guarded buffers."""
 
 import ctypes
-import subprocess
-import sys
 from array import array
 
 GUARD = bytes(range(0xA0, 0xE0))  # 64 bytes: keeps what follows aligned for every element
 
-# The element type (of module array) of each lent slice, in each entry's order; "set" is a number.
+# The element type (of module array) of each lent slice by its name, and of `out` by its entry; "set" is a number.
 ELEMENTS = {"coefficients": "h", "points": "H", "pool": "B", "secret_key": "B", "masks": "h",
             "message": "B", "public_key": "B", "signature": "B", "key": "b", "evaluations": "I",
             "entries": "H", "z": "h"}
@@ -35,19 +33,6 @@ class Guarded:
 
     def now(self):
         return ctypes.string_at(self.memory, self.size)
-
-
-def build(repository, crate):
-    """Path of the crate's shared object. rt proves the crate first, unless that is done already."""
-    built = subprocess.run(["rt", "staticlib", crate], cwd=repository, text=True,
-                           stdout=subprocess.PIPE, stderr=subprocess.STDOUT)
-    if built.returncode != 0:
-        sys.exit(f"{built.stdout}\nlibrary: rt staticlib {crate} failed")
-    archive = repository / f"target/staticlib/lib{crate}.a"
-    shared = repository / f"target/lib{crate}.so"
-    subprocess.run(["cc", "-shared", "-o", shared, "-Wl,--whole-archive", archive,
-                    "-Wl,--no-whole-archive", "-Wl,-z,defs"], check=True)  # defs: nothing left unlinked
-    return shared
 
 
 def load(path):

@@ -5,23 +5,13 @@ from reference import encodings
 from reference.parameters import SETS
 
 
-def unsigned(rng, count, bits):
-    """What a result buffer holds before the call."""
-    return [rng.getrandbits(bits) for _ in range(count)]
-
-
-def signed(rng, count, bits):
-    half = 1 << bits - 1
-    return [rng.randrange(-half, half) for _ in range(count)]
-
-
 def any_z(rng, s):
     """In range or not: readers and writers take both."""
     return material.within(rng, s, rng.choice((s.k - s.b, 32767)))
 
 
 def read_secret_key(rng, s):
-    return {"secret_key": encodings.write_secret_key(s, material.key(rng, s)), "out": signed(rng, s.N, 8)}
+    return {"secret_key": encodings.write_secret_key(s, material.key(rng, s)), "out": material.signed(rng, s.N, 8)}
 
 
 def write_secret_key(rng, s):
@@ -30,7 +20,7 @@ def write_secret_key(rng, s):
 
 def read_public_key(rng, s):
     encoded = encodings.write_public_key(s, material.points(rng, s), material.public_evaluations(rng, s))
-    return {"public_key": encoded, "points": unsigned(rng, s.t, 16), "evaluations": unsigned(rng, s.t, 32)}
+    return {"public_key": encoded, "points": material.unsigned(rng, s.t, 16), "evaluations": material.unsigned(rng, s.t, 32)}
 
 
 def write_public_key(rng, s):
@@ -40,7 +30,7 @@ def write_public_key(rng, s):
 
 def read_signature(rng, s):
     encoded = encodings.write_entries(s, material.entries(rng, s), any_z(rng, s))
-    return {"signature": encoded, "entries": unsigned(rng, s.b, 16), "z": signed(rng, s.N, 16)}
+    return {"signature": encoded, "entries": material.unsigned(rng, s.b, 16), "z": material.signed(rng, s.N, 16)}
 
 
 def write_signature(rng, s):

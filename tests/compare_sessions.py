@@ -6,8 +6,6 @@ from collections import Counter
 import sessions
 from reference.session import play_to_the_end
 
-# Every number that a session can print; 11 is for callers of the drawer alone.
-REFUSALS = {1, 2, 3, 4, 5, 6, 7, 8, 9, 10, 12, 13, 14, 15, 16}
 REFUSED_ROWS = {"01 2", "02 4", "03 10", "03 5", "04 8", "04 6", "06 10", "06 9", "07 10", "07 12",
                 "08 10", "08 7", "00 16", "00 13 where a command is due", "0 00 1", "0 00 15"}
 REFUSED_ROWS |= {f"{command:02X} 3" for command in range(2, 9)}

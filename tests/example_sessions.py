@@ -2,12 +2,13 @@
 
 import subprocess
 
+from building import REPOSITORY
 from reference.session import play_to_the_end
 
 
-def run(repository, player):
+def run(player):
     """True when all agree. Without player the reference runs alone."""
-    files = sorted((repository / "examples/sessions").glob("*.session"))
+    files = sorted((REPOSITORY / "examples/sessions").glob("*.session"))
     for file in files:
         stored = file.with_suffix(".rows").read_bytes()
         printed = subprocess.run([player, file], stdout=subprocess.PIPE, check=True).stdout if player else stored

@@ -34,7 +34,7 @@ OFTEN = {"good": 4, "after failing": 2, "two damages": 4, "three damages": 2}
 def evaluate(rng, s):
     edge = rng.choice((1, 6, s.k, 32767))
     coefficients = material.within(rng, s, edge)
-    out = [rng.getrandbits(32) for _ in range(s.t)]
+    out = material.unsigned(rng, s.t, 32)
     return {"set": s.number, "coefficients": coefficients, "points": material.points(rng, s), "out": out}
 
 
@@ -43,7 +43,7 @@ def draw(rng, s):
 
 
 def with_pool(rng, s, pool):
-    out = [rng.randint(-128, 127) for _ in range(s.N)]
+    out = material.signed(rng, s.N, 8)
     return {"set": s.number, "pool": pool, "out": out}
 
 

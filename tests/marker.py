@@ -7,18 +7,10 @@ from random import Random
 from tempfile import TemporaryDirectory
 
 import material
+from building import REPOSITORY, SANITIZERS, c_program
 from damages import put
 from reference.library import check
 from reference.parameters import SETS
-
-SANITIZERS = "-fsanitize=address,undefined"
-
-
-def build(repository, folder, *flags):
-    program = Path(folder) / f"marker{''.join(flags)}"
-    subprocess.run(["cc", "-O1", "-Wall", "-Wextra", "-Werror", "-fno-sanitize-recover=all", *flags, f"-I{repository}/include", f"{repository}/examples/marker.c",
-                    f"{repository}/target/staticlib/libpassign_c.a", "-o", program], check=True)
-    return program
 
 
 def good(rng, s):
@@ -57,11 +49,11 @@ def status_of(program, names, out=subprocess.DEVNULL):
     return subprocess.run([program, *names], stdout=out, stderr=subprocess.DEVNULL).returncode
 
 
-def run(seed, repository):
+def run(seed):
     """True when all agree."""
     seen = set()
     with TemporaryDirectory() as folder:
-        programs = [build(repository, folder), build(repository, folder, SANITIZERS)]
+        programs = [c_program("examples/marker.c", Path(folder) / "plain"), c_program("examples/marker.c", Path(folder) / "sanitized", SANITIZERS)]
         names = [Path(folder) / name for name in ("public_key", "message", "signature")]
         for name, *contents in cases(seed):
             for path, content in zip(names, contents):
@@ -74,9 +66,9 @@ def run(seed, repository):
                 said &= done.stderr.count("\n") == (status == 2) and "not a refusal" not in done.stderr
                 if (done.stdout, done.returncode, said) != (row, status, True):
                     print(f"marker: DIFFERENCE in '{name}': row {done.stdout!r}, status {done.returncode}, {done.stderr!r}; "
-                          f"reference {row!r}, {status}, {number}; seed {seed}")
+                          f"reference {row!r}, {status}, {number}; again: tests/run --seed {seed}")
                     return False
-        example = [repository / "examples/marker" / name.name for name in names]
+        example = [REPOSITORY / "examples/marker" / name.name for name in names]
         for program in programs:
             with open("/dev/full", "w") as full:
                 ends = [status_of(program, example), status_of(program, [*example[:2], "no such file"]), status_of(program, example, full)]

@@ -7,6 +7,17 @@ from reference.polynomials import evaluations
 MESSAGE_EDGES = (0, 1, 111, 112)  # 111 is the longest message of one SHA-512 block
 
 
+def unsigned(rng, count, bits):
+    """Numbers that a result buffer may hold before a call."""
+    return [rng.getrandbits(bits) for _ in range(count)]
+
+
+def signed(rng, count, bits):
+    """The same, signed."""
+    half = 1 << bits - 1
+    return [rng.randrange(-half, half) for _ in range(count)]
+
+
 def points(rng, s):
     chosen = rng.sample(range(1, s.N), s.t)
     if rng.random() < 0.5:  # both ends of 1..N-1

@@ -87,7 +87,7 @@ def run(seed, shared):
         wanted = by_reference(files, plays, memory)
         found = by_library(library, files, plays, memory) if library else wanted
         if found != wanted:
-            print(f"lists of plays: DIFFERENCE in list {at}, {difference(found, wanted)}, seed {seed}")
+            print(f"lists of plays: DIFFERENCE in list {at}, {difference(found, wanted)}; again: tests/run --seed {seed}")
             return False
         kinds.update(map(kind, wanted[0]))
         plays_made += len(plays)

@@ -89,7 +89,7 @@ def signature_operand(w, mistakes):
     elif held.key is not None and held.message is not None:
         data = material.signature(w.rng, s, held.key, held.points, held.message)[1:]
     else:
-        entries = encodings.number_bytes(sorted(w.rng.sample(range(s.N), s.b)), 2)
+        entries = encodings.number_bytes(material.entries(w.rng, s), 2)
         data = entries + encodings.number_bytes(material.passing_mask(w.rng, s), 2, signed=True)
     if wrong(w.rng, 2 * mistakes):
         at = w.rng.choice((w.rng.randrange(size), w.rng.randrange(2 * s.b)))
@@ -100,7 +100,7 @@ def signature_operand(w, mistakes):
 def evaluations_operand(w, mistakes):
     s, held = w.set, w.session
     public = held.evaluations if held.evaluations and w.rng.random() < 0.7 else None
-    public = list(public or [w.rng.randrange(s.q) for _ in range(s.t)])
+    public = list(public or material.public_evaluations(w.rng, s))
     if wrong(w.rng, mistakes):
         public[w.rng.randrange(s.t)] = w.rng.choice((s.q, s.q + 1, (1 << 24) - 1))
     return encodings.number_bytes(public, 3)
@@ -210,7 +210,7 @@ def forgets(rng, s):
 
 
 def two_mistakes(rng, s):
-    """Something is not held and the operand is wrong too: 10 and 8 come before its own number."""
+    """Something is not held and the operand is wrong too: 10 comes before its own number."""
     w = Writer(rng, s)
     add(w, 0x01)
     for command in (0x02, 0x03, 0x05):

@@ -22,7 +22,7 @@ use parameters::powers_of;
 use verifier::verdict_of;
 
 // The challenge of a signature, in front.
-fn challenge_of(p: Params, signature: &[u8]) -> [i8; 1153]
+fn challenge_read(p: Params, signature: &[u8]) -> [i8; 1153]
     requires { ⌜ Fitting p × (length (now signature) ≡ signatureSize p) ⌝ }
     ensures { λ r. ⌜ take (p .n) r ≡ challengeOf (p .n) (entriesRead p (now (signature .entry))) ⌝ }
 {
@@ -35,7 +35,7 @@ fn challenge_of(p: Params, signature: &[u8]) -> [i8; 1153]
 }
 
 // The point of a signature, in front.
-fn point_of(p: Params, signature: &[u8]) -> [i16; 1153]
+fn point_read(p: Params, signature: &[u8]) -> [i16; 1153]
     requires { ⌜ Fitting p × (length (now signature) ≡ signatureSize p) ⌝ }
     ensures { λ r. ⌜ take (p .n) r ≡ pointRead p (now (signature .entry)) ⌝ }
 {
@@ -82,8 +82,8 @@ fn verdict_in(p: Params, set: u8, key: &[u8], message: &[u8], signature: &[u8]) 
     let table = powers_of(set);
     let points = words_of(key, t);
     let evaluations = evaluations_of(p, key);
-    let c = challenge_of(p, signature);
-    let z = point_of(p, signature);
+    let c = challenge_read(p, signature);
+    let z = point_read(p, signature);
     verdict_of(
         p,
         &table[..n],

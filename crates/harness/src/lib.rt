@@ -10,7 +10,7 @@ ghost use Rattle.polynomial.specs.Polynomial.{point, ternary};
 ghost use Rattle.sha512.specs.Digest.{SHA-512};
 
 #[no_mangle]
-pub extern "C" fn bench_sha512(message: &[u8], out: &mut [u8; 64])
+pub extern "C" fn harness_sha512(message: &[u8], out: &mut [u8; 64])
     ensures { λ _. ⌜ now (out .exit) ≡ SHA-512 (now (message .entry)) ⌝ }
 {
     let d = sha512::sha512(message);
@@ -18,7 +18,7 @@ pub extern "C" fn bench_sha512(message: &[u8], out: &mut [u8; 64])
 }
 
 #[no_mangle]
-pub extern "C" fn bench_sha512_of_two(first: &[u8], second: &[u8], out: &mut [u8; 64])
+pub extern "C" fn harness_sha512_of_two(first: &[u8], second: &[u8], out: &mut [u8; 64])
     ensures { λ _. ⌜ now (out .exit) ≡ SHA-512 (now (first .entry) ++ now (second .entry)) ⌝ }
 {
     let d = sha512::sha512_of_two(first, second);
@@ -26,7 +26,7 @@ pub extern "C" fn bench_sha512_of_two(first: &[u8], second: &[u8], out: &mut [u8
 }
 
 #[no_mangle]
-pub extern "C" fn bench_point(f: &[i16], c: &[i8], y: &[i16], z: &mut [i32])
+pub extern "C" fn harness_point(f: &[i16], c: &[i8], y: &[i16], z: &mut [i32])
     requires { ⌜ (length (now f) ≤ 1153) × (length (now c) ≡ length (now f)) × (length (now y) ≡ length (now f)) × (length (now z) ≡ length (now f)) ⌝ }
     requires { ⌜ T (ternary (now f)) × T (ternary (now c)) ⌝ }
     ensures { λ _. ⌜ now (z .exit) ≡ point (now (f .entry)) (now (c .entry)) (now (y .entry)) ⌝ }

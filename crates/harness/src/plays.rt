@@ -7,7 +7,8 @@ use session::Session;
 use session::open;
 use session::play;
 
-fn least(number: u32, most: usize) -> usize
+// The number, or `most` where it is larger.
+fn at_most(number: u32, most: usize) -> usize
     ensures { λ r. ⌜ r ≤ most ⌝ }
 {
     let n = number as usize;
@@ -27,10 +28,10 @@ fn number_of(answer: Answer) -> u32 {
 fn play_at(session: Session, files: &[u8], plays: &[u32], at: usize, memory: &mut [u8]) -> Played
     requires { ⌜ at + 4 ≤ length (now plays) ⌝ }
 {
-    let file_end = least(plays[at + 1], files.len());
-    let file_start = least(plays[at], file_end);
-    let rows_end = least(plays[at + 3], memory.len());
-    let rows_start = least(plays[at + 2], rows_end);
+    let file_end = at_most(plays[at + 1], files.len());
+    let file_start = at_most(plays[at], file_end);
+    let rows_end = at_most(plays[at + 3], memory.len());
+    let rows_start = at_most(plays[at + 2], rows_end);
     play(
         session,
         &files[file_start..file_end],

@@ -9,10 +9,10 @@ use session::open;
 use session::play;
 use session_rows::row_size;
 
-// A play, with whether the session goes on.
+// The session after a play, and whether the play wrote a row.
 struct Turn {
     session: Session,
-    on: bool,
+    wrote: bool,
 }
 
 // Writes the row at the front of a row buffer, whole.
@@ -22,7 +22,7 @@ fn write_row(rows: &[u8]) {
 }
 
 // Writes the row of a play that wrote one, and says whether it did.
-fn tell(answer: Answer, rows: &[u8]) -> bool {
+fn show(answer: Answer, rows: &[u8]) -> bool {
     match answer {
         Answer::Row(_) => {
             write_row(rows);
@@ -41,16 +41,16 @@ fn play_one(session: Session, file: &[u8]) -> Turn {
     let answer = played.answer;
     Turn {
         session: next,
-        on: tell(answer, &rows),
+        wrote: show(answer, &rows),
     }
 }
 
-// How many plays are left after one: none after the session's end.
-fn left_after(on: bool, left: usize) -> usize
+// How many plays are left after one: none where it wrote no row, since the session had ended.
+fn left_after(wrote: bool, left: usize) -> usize
     requires { ⌜ 0 < left ⌝ }
     ensures { λ r. ⌜ r < left ⌝ }
 {
-    if on { left - 1 } else { 0 }
+    if wrote { left - 1 } else { 0 }
 }
 
 // Plays to the end: every file gets there in as many plays as it has bytes and one more.
@@ -63,7 +63,7 @@ fn play_all(file: &[u8])
         let turn = play_one(session, file);
         let next = turn.session;
         session = next;
-        left = left_after(turn.on, left);
+        left = left_after(turn.wrote, left);
     }
 }
 

@@ -34,7 +34,7 @@ fn residues_of(a: &[i16], q: u32) -> [u32; 1153]
     out
 }
 
-// k + j modulo n, for k and j below n: the next place in the table of powers. The loop that calls it has n - j ready.
+// k + j modulo n, for k and j below n: the next place in the table of powers. n - j is the same in each turn of a loop that calls it.
 fn turned(k: usize, j: usize, n: usize) -> usize
     requires { ⌜ (k < n) × (j < n) × (n < 65536) ⌝ }
     ensures value { λ r. ⌜ r ≡ (k + j) % n ⌝ }

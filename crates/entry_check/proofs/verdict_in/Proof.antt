@@ -50,11 +50,11 @@ words-of-requires c κs =
 evaluations-of-requires : tie.Need-evaluations-of-requires
 evaluations-of-requires c κs = let s = c .before .before .before .before .before in (fitting s, allowed s .key-size)
 
-challenge-of-requires : tie.Need-challenge-of-requires
-challenge-of-requires c κs = let s = c .before .before .before .before .before .before in (fitting s, allowed s .signature-size)
+challenge-read-requires : tie.Need-challenge-read-requires
+challenge-read-requires c κs = let s = c .before .before .before .before .before .before in (fitting s, allowed s .signature-size)
 
-point-of-requires : tie.Need-point-of-requires
-point-of-requires c κs = let s = c .before .before .before .before .before .before .before in (fitting s, allowed s .signature-size)
+point-read-requires : tie.Need-point-read-requires
+point-read-requires c κs = let s = c .before .before .before .before .before .before .before in (fitting s, allowed s .signature-size)
 
 array-share-prefix-table : tie.Need-array-share-prefix-table
 array-share-prefix-table c = let f = fitting (c .before .before .before .before .before .before .before .before) .size in search needs
@@ -78,13 +78,13 @@ array-share-prefix-c : tie.Need-array-share-prefix-c
 array-share-prefix-c c = let f = fitting (c .before .before .before .before .before .before .before .before .before .before .before) .size in search needs
 
 slice-aggregate-verdict-of-4 : tie.Need-slice-aggregate-verdict-of-4
-slice-aggregate-verdict-of-4 c = sym (length-take-le _ (c .before .before .before .before .before .challenge-of .result) (array-share-prefix-c (c .before)))
+slice-aggregate-verdict-of-4 c = sym (length-take-le _ (c .before .before .before .before .before .challenge-read .result) (array-share-prefix-c (c .before)))
 
 array-share-prefix-z : tie.Need-array-share-prefix-z
 array-share-prefix-z c = let f = fitting (c .before .before .before .before .before .before .before .before .before .before .before .before) .size in search needs
 
 slice-aggregate-verdict-of-5 : tie.Need-slice-aggregate-verdict-of-5
-slice-aggregate-verdict-of-5 c = sym (length-take-le _ (c .before .before .before .before .before .point-of .result) (array-share-prefix-z (c .before)))
+slice-aggregate-verdict-of-5 c = sym (length-take-le _ (c .before .before .before .before .before .point-read .result) (array-share-prefix-z (c .before)))
 
 verdict-of-requires : tie.Need-verdict-of-requires
 unfolding pointsOf
@@ -116,8 +116,8 @@ returns c =
     let r = c .before .before .before .before .before .before in
     let s = r .before .before .before .before .before .before .before .before .args in
     c .verdict-of .ensures
-    ∙ same-verdict (s .p) (s .message .now) (r .before .before .before .words-of .ensures) (r .before .before .evaluations-of .ensures) (r .before .challenge-of .ensures)
-    (r .point-of .ensures)
+    ∙ same-verdict (s .p) (s .message .now) (r .before .before .before .words-of .ensures) (r .before .before .evaluations-of .ensures) (r .before .challenge-read .ensures)
+    (r .point-read .ensures)
 
 pub verdict-in-spec : {M : Type 1} → statement M
 verdict-in-spec =
@@ -126,8 +126,8 @@ verdict-in-spec =
     powers-of-requires
     words-of-requires
     evaluations-of-requires
-    challenge-of-requires
-    point-of-requires
+    challenge-read-requires
+    point-read-requires
     array-share-prefix-table
     slice-aggregate-verdict-of
     array-share-prefix-points

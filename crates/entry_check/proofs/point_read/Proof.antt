@@ -1,4 +1,4 @@
--- `point_of` meets its contract: the coefficients are read into the front of the array.
+-- `point_read` meets its contract: the coefficients are read into the front of the array.
 -- Assumes nothing.
 use mathlib.Core.Path.{_≡_, sym, ap, ap₂, _∙_}
 use mathlib.Core.List.{List, map}
@@ -11,8 +11,8 @@ use borrow.Author.Needs.{needs}
 use Rattle.encoding.specs.Bytes.{numbers, signed16}
 use Rattle.encoding.specs.Encoding.{pointRead}
 use Rattle.encoding.proofs.Parts.{rest}
-use Rattle.entry_check.proofs.point_of.Statement.{statement}
-use Rattle.entry_check.proofs.point_of.Tie as tie
+use Rattle.entry_check.proofs.point_read.Statement.{statement}
+use Rattle.entry_check.proofs.point_read.Tie as tie
 
 mul-start : tie.Need-mul-start
 mul-start c = search needs
@@ -54,8 +54,8 @@ returns c =
     take-at (w .last .1 .0) (drop n (replicate 1153 (pos 0))) n (w .kept .1 .0 ∙ size)
     ∙ w .ensures ∙ ap₂ (λ (m : ℕ) (l : List ℕ). map signed16 (numbers 2 m l)) size (rest (s .signature .now) (1 + 2 * s .p .b))
 
-pub point-of-spec : {M : Type 1} → statement M
-point-of-spec =
+pub point-read-spec : {M : Type 1} → statement M
+point-read-spec =
     tie.close
     (tie.spec
     mul-start

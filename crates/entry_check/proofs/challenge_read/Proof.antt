@@ -1,4 +1,4 @@
--- `challenge_of` meets its contract: the challenge of the entries is written into the front of the array.
+-- `challenge_read` meets its contract: the challenge of the entries is written into the front of the array.
 -- Assumes nothing.
 use mathlib.Core.Path.{sym, ap₂, _∙_}
 use lib.IntN.{pos}
@@ -7,8 +7,8 @@ use lib.Seq.{length-take-le, take-at}
 use borrow.Author.Needs.{needs}
 use Rattle.encoding.specs.Challenge.{challengeOf}
 use Rattle.encoding.specs.Encoding.{entriesRead}
-use Rattle.entry_check.proofs.challenge_of.Statement.{statement}
-use Rattle.entry_check.proofs.challenge_of.Tie as tie
+use Rattle.entry_check.proofs.challenge_read.Statement.{statement}
+use Rattle.entry_check.proofs.challenge_read.Tie as tie
 
 words-of-requires : tie.Need-words-of-requires
 words-of-requires c κs = search needs
@@ -39,8 +39,8 @@ returns c =
     take-at (w .last .1 .0) (drop n (replicate 1153 (pos 0))) n (w .kept .1 .0 ∙ size)
     ∙ w .ensures ∙ ap₂ challengeOf size (c .before .before .before .before .words-of .ensures)
 
-pub challenge-of-spec : {M : Type 1} → statement M
-challenge-of-spec =
+pub challenge-read-spec : {M : Type 1} → statement M
+challenge-read-spec =
     tie.close
     (tie.spec
     words-of-requires

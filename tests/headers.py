@@ -1,0 +1,54 @@
+"""The C headers against the functions that the crates export: names, order and types of the arguments, and results. No compiler sees both sides."""
+
+import re
+
+from building import REPOSITORY
+
+HEADERS = {"include/passign.h": "passign_c", "bench/harness.h": "harness"}
+ELEMENTS = {"u8": "uint8_t", "i8": "int8_t", "u16": "uint16_t", "i16": "int16_t", "u32": "uint32_t", "i32": "int32_t"}
+
+
+def without_comments(text):
+    return re.sub(r"/\*.*?\*/|//[^\n]*|^\s*#[^\n]*", "", text, flags=re.DOTALL | re.MULTILINE)
+
+
+def declared(header):
+    """Each function of a header: its result, and the type and name of each argument."""
+    functions = {}
+    for result, name, arguments in re.findall(r"(\w+) (\w+)\(([^)]*)\);", without_comments(header)):
+        functions[name] = result, [re.fullmatch(r"(.*?)(\w+)", " ".join(argument.split())).groups() for argument in arguments.split(",")]
+    return functions
+
+
+def in_c(name, kind):
+    """A parameter as C has it: a slice is a pointer and its length, an array a pointer."""
+    lent = re.fullmatch(r"&(mut )?\[(\w+)(; \d+)?\]", kind)
+    if not lent:
+        return [(f"{ELEMENTS[kind]} ", name)]
+    mutable, element, sized = lent.groups()
+    return [(f"{'' if mutable else 'const '}{ELEMENTS[element]} *", name)] + ([] if sized else [("size_t ", f"{name}_length")])
+
+
+def exported(code):
+    """Each exported function of a crate's source, as C has it."""
+    functions = {}
+    for name, parameters, result in re.findall(r'pub extern "C" fn (\w+)\(([^)]*)\)(?: -> (\w+))?', without_comments(code)):
+        pairs = [[part.strip() for part in parameter.split(":", 1)] for parameter in parameters.split(",") if parameter.strip()]
+        functions[name] = ELEMENTS[result] if result else "void", [argument for pair in pairs for argument in in_c(*pair)]
+    return functions
+
+
+def run():
+    """True when all agree."""
+    count = 0
+    for header, crate in HEADERS.items():
+        found = declared((REPOSITORY / header).read_text())
+        code = "".join(path.read_text() for path in sorted((REPOSITORY / "crates" / crate / "src").glob("*.rt")))
+        wanted = exported(code)
+        for name in sorted(set(found) | set(wanted)):
+            if found.get(name) != wanted.get(name):
+                print(f"headers: DIFFERENCE in {name}: {header} declares {found.get(name)}, crate {crate} exports {wanted.get(name)}")
+                return False
+        count += len(wanted)
+    print(f"headers: {count} declarations are those of the crates")
+    return count > 0
