@@ -1,4 +1,4 @@
--- Tests of a list as loops make them, one element a turn, with what holds so far as one bool; and what the tests show.
+-- The test of increasing numbers as a loop makes it, one number a turn, with what holds so far as one bool; and what the test shows.
 -- Assumes nothing.
 use mathlib.Core.Path.{_≡_, sym, ap, ap₂, _∙_}
 use mathlib.Core.Bool.{Bool, _&&_, and-assoc, and-true}
@@ -7,19 +7,10 @@ use Prim.Native.Nat.{ℕ, zero, suc, _+_, _≤_, _<_}
 use native.Mathlib.Nat.{le-of-suc-le-suc, not-suc-le-zero}
 use native.Mathlib.Numerals.{add-one}
 use lib.Dec.{T, ltb, leb, ltb→lt}
-use lib.ListN.{length, getD, take, drop, drop-of-length-le}
-use lib.Seq.{drop-cons, take-all}
-use Rattle.algebra.specs.All.{all}
-use Rattle.algebra.proofs.All.{all-more}
+use lib.ListN.{length, getD, drop, drop-of-length-le}
+use lib.Seq.{drop-cons}
 use Rattle.algebra.proofs.Test.{and-left, and-right}
 use Rattle.encoding.specs.Bytes.{increasing}
-
-module _ {A : Type 0} (f : A → Bool) (xs : List A) where
-  pub all-step : (i : ℕ) (d : A) {ok t : Bool} → i < length xs → ok ≡ all f (take i xs) → t ≡ f (getD xs i d) → (ok && t) ≡ all f (take (i + 1) xs)
-  all-step i d h e g = ap₂ _&&_ e g ∙ sym (all-more f xs i d h)
-
-  pub all-done : (i : ℕ) {ok : Bool} → length xs ≤ i → ok ≡ all f (take i xs) → ok ≡ all f xs
-  all-done i h e = e ∙ ap (all f) (take-all i xs h)
 
 -- numbers strictly increasing, where `from` is the bound that each number sets for the next
 module _ (n : ℕ) (vs : List ℕ) where

@@ -15,7 +15,7 @@ use layout::coefficients_of;
 use parameters::Params;
 use parameters::params_of;
 use parameters::powers_of;
-use signer::masks_within;
+use polynomial::point::in_range16;
 use signer::sign_first;
 
 // Whether so many numbers are masks of n numbers each, at most eight.
@@ -51,7 +51,7 @@ fn refusal_in(p: Params, key: &[u8], points: &[u16], masks: &[i16], room: usize)
     if !are_key_bytes(&key[1..]) {
         return 5;
     }
-    if masks_within(masks, p.k) {
+    if in_range16(masks, p.k) {
         return 0;
     }
     6

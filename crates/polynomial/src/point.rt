@@ -97,3 +97,16 @@ pub fn in_range(z: &[i32], bound: u32) -> bool
     }
     all
 }
+
+// The same of numbers of 16 bits: masks, and the point of a signature.
+pub fn in_range16(values: &[i16], bound: u32) -> bool
+    ensures { λ r. ⌜ r ≡ within bound (now (values .entry)) ⌝ }
+{
+    let mut all = true;
+    let mut i: usize = 0;
+    while i < values.len() {
+        all = all & is_within(values[i] as i32, bound);
+        i += 1;
+    }
+    all
+}

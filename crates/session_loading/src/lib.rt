@@ -12,6 +12,7 @@ use encoding::public_key::are_below;
 use encoding::public_key::are_points;
 use encoding::signed_numbers::read_signed_words;
 use parameters::Params;
+use polynomial::point::in_range16;
 use session_state::Done;
 use session_state::Evaluations;
 use session_state::Held;
@@ -23,7 +24,6 @@ use session_state::mask_list::with_mask;
 use session_state::no_evaluations;
 use session_state::no_key;
 use session_state::only_set;
-use signer::masks_within;
 
 pub mod key;
 
@@ -86,7 +86,7 @@ pub fn load_mask(p: Params, h: Held, operand: &[u8]) -> Done
     }
     let mut mask = [0i16; 1153];
     read_signed_words(operand, &mut mask[..n]);
-    if !masks_within(&mask[..n], p.k) {
+    if !in_range16(&mask[..n], p.k) {
         return Done { number: 6, held: h };
     }
     let masks = h.masks;

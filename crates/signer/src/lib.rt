@@ -2,7 +2,6 @@
 ghost use mathlib.Core.Path.{_≡_};
 ghost use Prim.Native.Nat.{_*_, _/_, _≤_};
 ghost use lib.ListN.{length};
-ghost use Rattle.algebra.specs.Integer.{within};
 ghost use Rattle.challenge.specs.Draw.{drawChallenge};
 ghost use Rattle.encoding.specs.Bytes.{encoded};
 ghost use Rattle.encoding.specs.Challenge.{entriesOf};
@@ -16,21 +15,7 @@ use encoding::signed_numbers::write_signed_words;
 use parameters::Params;
 use polynomial::evaluation::evaluate;
 use polynomial::point::in_range;
-use polynomial::point::is_within;
 use polynomial::point::point_of;
-
-// Whether every number of the masks is in -k..k.
-pub fn masks_within(masks: &[i16], k: u32) -> bool
-    ensures { λ r. ⌜ r ≡ within k (now (masks .entry)) ⌝ }
-{
-    let mut all = true;
-    let mut i: usize = 0;
-    while i < masks.len() {
-        all = all & is_within(masks[i] as i32, k);
-        i += 1;
-    }
-    all
-}
 
 // Writes a challenge's b entries as bytes.
 fn write_challenge(b: usize, c: &[i8], out: &mut [u8])

@@ -3,7 +3,7 @@ ghost use mathlib.Core.Path.{_≡_};
 ghost use Prim.Native.Nat.{_*_, _^_, _<_, _≤_};
 ghost use lib.IntN.{pos, _-ℤ_};
 ghost use lib.ListN.{length, take};
-ghost use Rattle.algebra.specs.Integer.{residue, within};
+ghost use Rattle.algebra.specs.Integer.{residue};
 ghost use Rattle.challenge.specs.Draw.{drawChallenge};
 ghost use Rattle.polynomial.specs.Evaluation.{evaluations, Below, Evaluable};
 ghost use Rattle.scheme.specs.Scheme.{equal, equalℤ, recovered, verdict};
@@ -11,7 +11,7 @@ ghost use Rattle.verifier.specs.Verifier.{Checkable, Recoverable, differ
 use challenge::draw::challenge_of;
 use parameters::Params;
 use polynomial::evaluation::evaluate;
-use polynomial::point::in_range;
+use polynomial::point::in_range16;
 
 // z - v × c modulo q, for evaluations below q.
 fn difference(z: u32, v: u32, c: u32, q: u32) -> u32
@@ -49,30 +49,6 @@ fn wide_challenge(c: &[i8]) -> [i16; 1153]
         i += 1;
     }
     out
-}
-
-// The coefficients of a point as the range test takes them, in front.
-fn wide_point(z: &[i16]) -> [i32; 1153]
-    requires { ⌜ length (now z) ≤ 1153 ⌝ }
-    ensures { λ r. ⌜ take (length (now (z .entry))) r ≡ now (z .entry) ⌝ }
-{
-    let mut out = [0i32; 1153];
-    let mut i = 0;
-    while i < z.len() {
-        out[i] = z[i] as i32;
-        i += 1;
-    }
-    out
-}
-
-// Whether every coefficient of the point is in -bound..bound.
-fn point_in_range(z: &[i16], bound: u32) -> bool
-    requires { ⌜ length (now z) ≤ 1153 ⌝ }
-    ensures { λ r. ⌜ r ≡ within bound (now (z .entry)) ⌝ }
-{
-    let n = z.len();
-    let wide = wide_point(z);
-    in_range(&wide[..n], bound)
 }
 
 fn is_same(a: i8, b: i8) -> bool
@@ -144,7 +120,7 @@ pub fn verdict_of(
     let n = p.n;
     let t = p.t;
     let b = p.b;
-    if point_in_range(z, p.k - b as u32) {
+    if in_range16(z, p.k - b as u32) {
         let commitment = recovered_commitment(p, powers, points, public, c, z);
         let drawn = challenge_of(p, &commitment[..t], message);
         if drawn.complete {

@@ -102,22 +102,22 @@ returns-6 c =
     let p = c .before .before .before in
     lengths (p .before .before) (rw (points-test (p .before) ∙ not-false _ (p .if5 .left), key-test (c .before) ∙ not-true _ (c .if6 .taken)))
 
-masks-within-requires : tie.Need-masks-within-requires
-masks-within-requires c κs = search needs
+in-range16-requires : tie.Need-in-range16-requires
+in-range16-requires c κs = search needs
 
 returns-7 : tie.Need-returns-7
 returns-7 c =
     let k = c .before .before in
     let p = k .before .before .before in
     lengths (p .before .before)
-    (rw (points-test (p .before) ∙ not-false _ (p .if5 .left), key-test (k .before) ∙ not-false _ (k .if6 .left), sym (c .before .masks-within .ensures) ∙ c .if7 .taken))
+    (rw (points-test (p .before) ∙ not-false _ (p .if5 .left), key-test (k .before) ∙ not-false _ (k .if6 .left), sym (c .before .in-range16 .ensures) ∙ c .if7 .taken))
 
 returns-8 : tie.Need-returns-8
 returns-8 c =
     let k = c .before .before in
     let p = k .before .before .before in
     lengths (p .before .before)
-    (rw (points-test (p .before) ∙ not-false _ (p .if5 .left), key-test (k .before) ∙ not-false _ (k .if6 .left), sym (c .before .masks-within .ensures) ∙ c .if7 .left))
+    (rw (points-test (p .before) ∙ not-false _ (p .if5 .left), key-test (k .before) ∙ not-false _ (k .if6 .left), sym (c .before .in-range16 .ensures) ∙ c .if7 .left))
 
 pub refusal-in-spec : {M : Type 1} → statement M
 refusal-in-spec =
@@ -140,6 +140,6 @@ refusal-in-spec =
     part-are-key-bytes-end
     are-key-bytes-requires
     returns-6
-    masks-within-requires
+    in-range16-requires
     returns-7
     returns-8)

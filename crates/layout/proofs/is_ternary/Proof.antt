@@ -12,7 +12,7 @@ use mir.Val.{toZ, ofZ}
 use mir.Facts.{toZ-ofZ}
 use borrow.Author.Needs.{needs}
 use Rattle.polynomial.specs.Polynomial.{ternary}
-use Rattle.encoding.proofs.Testing.{all-step, all-done}
+use Rattle.algebra.proofs.Loop.{all-step, all-done}
 use Rattle.layout.proofs.is_ternary.Statement.{statement}
 use Rattle.layout.proofs.is_ternary.Tie as tie
 

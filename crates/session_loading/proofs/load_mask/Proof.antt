@@ -67,19 +67,19 @@ read c =
 array-share-prefix-mask : tie.Need-array-share-prefix-mask
 array-share-prefix-mask c = read (c .before) .room
 
-slice-aggregate-masks-within : tie.Need-slice-aggregate-masks-within
-slice-aggregate-masks-within c = read (c .before .before) .count
+slice-aggregate-in-range16 : tie.Need-slice-aggregate-in-range16
+slice-aggregate-in-range16 c = read (c .before .before) .count
 
-masks-within-requires : tie.Need-masks-within-requires
-masks-within-requires c κs = search needs
+in-range16-requires : tie.Need-in-range16-requires
+in-range16-requires c κs = search needs
 
 -- and tested
-tested : (c : tie.After-masks-within)
+tested : (c : tie.After-in-range16)
     → let a = c .before .before .before .before .before .before .before .before .args in
-    within (a .p .k) (maskOf (a .p) (a .operand .now)) ≡ c .masks-within .result
+    within (a .p .k) (maskOf (a .p) (a .operand .now)) ≡ c .in-range16 .result
 tested c =
     let r = c .before .before .before in
-    sym (c .masks-within .ensures ∙ ap (within (r .before .before .before .before .before .args .p .k)) (read r .front))
+    sym (c .in-range16 .ensures ∙ ap (within (r .before .before .before .before .before .args .p .k)) (read r .front))
 
 returns-2 : tie.Need-returns-2
 unfolding loadMask heldIn
@@ -115,8 +115,8 @@ load-mask-spec =
     slice-aggregate-read-signed-words
     read-signed-words-requires
     array-share-prefix-mask
-    slice-aggregate-masks-within
-    masks-within-requires
+    slice-aggregate-in-range16
+    in-range16-requires
     returns-2
     array-share-prefix-mask-2
     slice-aggregate-with-mask

@@ -15,14 +15,14 @@ use Rattle.verifier.proofs.Verdict.{verdict-is}
 use Rattle.verifier.proofs.verdict_of.Statement.{statement}
 use Rattle.verifier.proofs.verdict_of.Tie as tie
 
-cast-point-in-range : tie.Need-cast-point-in-range
-cast-point-in-range c = search needs
+cast-in-range16 : tie.Need-cast-in-range16
+cast-in-range16 c = search needs
 
-sub-point-in-range : tie.Need-sub-point-in-range
-sub-point-in-range c = search needs
+sub-in-range16 : tie.Need-sub-in-range16
+sub-in-range16 c = search needs
 
-point-in-range-requires : tie.Need-point-in-range-requires
-point-in-range-requires c κs = search needs
+in-range16-requires : tie.Need-in-range16-requires
+in-range16-requires c κs = search needs
 
 recovered-commitment-requires : tie.Need-recovered-commitment-requires
 recovered-commitment-requires c κs = c .before .before .before .before .before .before .before .pre
@@ -56,7 +56,7 @@ returns c =
     let signature : Signature = record { c = s .c .now; z = s .z .now } in
     c .is-equal .ensures
     ∙ verdict-is (s .p) (s .points .now) w (s .public .now) signature {t = true} {o = some (take (s .p .n) (c .before .before .before .before .challenge-of .result .challenge))}
-    (sym (c .before .before .before .before .before .before .before .if1 .taken) ∙ c .before .before .before .before .before .before .before .before .point-in-range .ensures)
+    (sym (c .before .before .before .before .before .before .before .if1 .taken) ∙ c .before .before .before .before .before .before .before .before .in-range16 .ensures)
     ((rw (c .before .before .before .if2 .taken) at (c .before .before .before .before .challenge-of .ensures)) ∙ ap (λ (e : List ℕ). drawChallenge (s .p) e w) (c .before .before .before .before .before .before .recovered-commitment .ensures))
 
 returns-2 : tie.Need-returns-2
@@ -65,7 +65,7 @@ returns-2 c =
     let w = s .message .now in
     let signature : Signature = record { c = s .c .now; z = s .z .now } in
     verdict-is (s .p) (s .points .now) w (s .public .now) signature {t = true} {o = none}
-    (sym (c .before .before .before .before .if1 .taken) ∙ c .before .before .before .before .before .point-in-range .ensures)
+    (sym (c .before .before .before .before .if1 .taken) ∙ c .before .before .before .before .before .in-range16 .ensures)
     ((rw (c .if2 .left) at (c .before .challenge-of .ensures)) ∙ ap (λ (e : List ℕ). drawChallenge (s .p) e w) (c .before .before .before .recovered-commitment .ensures))
 
 returns-3 : tie.Need-returns-3
@@ -74,15 +74,15 @@ returns-3 c =
     let signature : Signature = record { c = s .c .now; z = s .z .now } in
     verdict-is (s .p) (s .points .now) (s .message .now) (s .public .now) signature {t = false}
     {o = drawChallenge (s .p) (recovered (s .p) signature (s .points .now) (s .public .now)) (s .message .now)}
-    (sym (c .if1 .left) ∙ c .before .point-in-range .ensures) refl
+    (sym (c .if1 .left) ∙ c .before .in-range16 .ensures) refl
 
 pub verdict-of-spec : {M : Type 1} → statement M
 verdict-of-spec =
     tie.close
     (tie.spec
-    cast-point-in-range
-    sub-point-in-range
-    point-in-range-requires
+    cast-in-range16
+    sub-in-range16
+    in-range16-requires
     recovered-commitment-requires
     array-share-prefix-commitment
     slice-aggregate-challenge-of

@@ -5,7 +5,7 @@ use Prim.Native.Nat.{ℕ, _-_, _≤_}
 use lib.Dec.{ltb}
 use lib.ListN.{length, take}
 use Rattle.algebra.specs.All.{all}
-use Rattle.encoding.proofs.Testing.{all-step, all-done}
+use Rattle.algebra.proofs.Loop.{all-step, all-done}
 use borrow.Author.Needs.{needs}
 use native.Mathlib.Omega.{arith}
 use Rattle.encoding.proofs.public_key.are_below.Statement.{statement}

@@ -1,18 +1,16 @@
 -- `in_range` meets its contract: after i turns the flag says whether the first i coefficients are in range.
 -- Assumes nothing.
-use mathlib.Core.Path.{_≡_, refl, sym, ap, ap₂, _∙_}
-use mathlib.Core.Bool.{Bool, _&&_}
-use mathlib.Core.List.{List}
+use mathlib.Core.Path.{_≡_, refl, ap, _∙_}
+use mathlib.Core.Bool.{Bool}
 use Prim.Native.Nat.{_≤_, _-_}
 use native.Mathlib.Omega.{arith}
 use lib.Dec.{leb}
 use lib.IntN.{ℤ, pos, natAbs}
 use lib.ListN.{length, getD, take}
-use lib.Seq.{take-length}
 use mir.Facts.{toZ-ofZ}
 use mir.Syntax.{w32}
 use borrow.Author.Needs.{needs}
-use Rattle.algebra.proofs.All.{all-more}
+use Rattle.algebra.proofs.Loop.{all-step, all-done}
 use Rattle.algebra.specs.Integer.{within}
 use Rattle.polynomial.proofs.point.in_range.Statement.{statement}
 use Rattle.polynomial.proofs.point.in_range.Tie as tie
@@ -45,19 +43,18 @@ loop-again : tie.Need-loop-again Inv-loop μ-loop
 loop-again c =
     let s = c .before .before .before .before in
     let l = c .before .before .before .loop in
-    let z = s .args .z .now in (
+    let z = s .args .z .now in
+    let test : ℤ → Bool = λ a. leb (natAbs a) (s .args .bound) in (
       omega arith,
-      ap₂ (λ (u v : Bool). u && v) (l .inv .1)
-          (c .is-within .ensures ∙ ap (λ (a : ℤ). leb (natAbs a) (s .args .bound)) (toZ-ofZ {w = w32} {z = getD z (l .i) (pos 0)} (record { sfits = c .before .is-within-arg .given })))
-          ∙ sym (all-more (λ (a : ℤ). leb (natAbs a) (s .args .bound)) z (l .i) (pos 0) (omega arith)),
+      all-step test z (l .i) (pos 0) (omega arith) (l .inv .1)
+          (c .is-within .ensures ∙ ap test (toZ-ofZ {w = w32} {z = getD z (l .i) (pos 0)} (record { sfits = c .before .is-within-arg .given }))),
     )
 
 returns : tie.Need-returns Inv-loop μ-loop
 returns c =
+    let s = c .before .before in
     let l = c .before .loop in
-    let z = c .before .before .args .z .now in
-    let e : l .i ≡ length z = omega arith in
-    (rw e at (l .inv .1)) ∙ ap (λ (f : List ℤ). within (c .before .before .args .bound) f) (take-length z)
+    all-done (λ (a : ℤ). leb (natAbs a) (s .args .bound)) (s .args .z .now) (l .i) (omega arith) (l .inv .1)
 
 pub in-range-spec : {M : Type 1} → statement M
 in-range-spec =

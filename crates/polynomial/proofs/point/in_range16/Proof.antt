@@ -1,4 +1,4 @@
--- `masks_within` meets its contract: after i turns the flag says whether the first i numbers are in range.
+-- `in_range16` meets its contract: after i turns the flag says whether the first i numbers are in range.
 -- Assumes nothing.
 use mathlib.Core.Path.{_≡_, refl, ap, _∙_}
 use mathlib.Core.Bool.{Bool}
@@ -11,16 +11,16 @@ use mir.Syntax.{w16, w32}
 use borrow.Author.Needs.{needs}
 use Rattle.algebra.proofs.Signed.{widened}
 use Rattle.algebra.specs.Integer.{within}
-use Rattle.encoding.proofs.Testing.{all-step, all-done}
+use Rattle.algebra.proofs.Loop.{all-step, all-done}
 use Rattle.algebra.proofs.Widening.{fits-wider}
-use Rattle.signer.proofs.masks_within.Statement.{statement}
-use Rattle.signer.proofs.masks_within.Tie as tie
+use Rattle.polynomial.proofs.point.in_range16.Statement.{statement}
+use Rattle.polynomial.proofs.point.in_range16.Tie as tie
 
 abbrev Inv-loop : tie.InvT-loop
-Inv-loop masks k all₀ i₀ all i = (i ≤ length masks) × (all ≡ within k (take i masks))
+Inv-loop values bound all₀ i₀ all i = (i ≤ length values) × (all ≡ within bound (take i values))
 
 abbrev μ-loop : tie.MeasureT-loop
-μ-loop masks k all₀ i₀ all i = length masks - i
+μ-loop values bound all₀ i₀ all i = length values - i
 
 loop-holds : tie.Need-loop-holds Inv-loop μ-loop
 loop-holds c = (search needs, refl)
@@ -32,7 +32,7 @@ shared-slice-copy-out-is-within : tie.Need-shared-slice-copy-out-is-within Inv-l
 shared-slice-copy-out-is-within c = search needs
 
 cast-is-within : tie.Need-cast-is-within Inv-loop μ-loop
-cast-is-within c = fits-wider w16 w32 tt (c .before .before .before .args .masks .now) (c .before .before .loop .i) (c .is-within-arg .given)
+cast-is-within c = fits-wider w16 w32 tt (c .before .before .before .args .values .now) (c .before .before .loop .i) (c .is-within-arg .given)
 
 is-within-requires : tie.Need-is-within-requires Inv-loop μ-loop
 is-within-requires c κs = search needs
@@ -47,20 +47,20 @@ loop-again : tie.Need-loop-again Inv-loop μ-loop
 loop-again c =
     let s = c .before .before .before .before in
     let l = c .before .before .before .loop in
-    let test : ℤ → Bool = λ a. leb (natAbs a) (s .args .k) in (
+    let test : ℤ → Bool = λ a. leb (natAbs a) (s .args .bound) in (
       omega arith,
-      all-step test (s .args .masks .now) (l .i) (pos 0) (omega arith) (l .inv .1)
-          (c .is-within .ensures ∙ ap test (widened {w = w16} {z = getD (s .args .masks .now) (l .i) (pos 0)} (record { sfits = c .before .is-within-arg .given }) w32 tt)),
+      all-step test (s .args .values .now) (l .i) (pos 0) (omega arith) (l .inv .1)
+          (c .is-within .ensures ∙ ap test (widened {w = w16} {z = getD (s .args .values .now) (l .i) (pos 0)} (record { sfits = c .before .is-within-arg .given }) w32 tt)),
     )
 
 returns : tie.Need-returns Inv-loop μ-loop
 returns c =
     let s = c .before .before in
     let l = c .before .loop in
-    all-done (λ (a : ℤ). leb (natAbs a) (s .args .k)) (s .args .masks .now) (l .i) (omega arith) (l .inv .1)
+    all-done (λ (a : ℤ). leb (natAbs a) (s .args .bound)) (s .args .values .now) (l .i) (omega arith) (l .inv .1)
 
-pub masks-within-spec : {M : Type 1} → statement M
-masks-within-spec =
+pub in-range16-spec : {M : Type 1} → statement M
+in-range16-spec =
     tie.close
     (tie.spec
     Inv-loop
