@@ -14,30 +14,18 @@ use lib.Seq.{take-suc, take-add, take-at, drop-at, take-all}
 use lib.Signed.{mag}
 use borrow.Author.Tests.{lt-ltb, le-ltb}
 use Rattle.algebra.specs.All.{all}
-use Rattle.algebra.proofs.All.{all-at}
+use Rattle.algebra.proofs.All.{all-at, all-drop}
 use Rattle.algebra.proofs.Test.{and-left, and-right, and-intro, by-test}
 use Rattle.encoding.specs.Bytes.{bigEndian, valueAfter, valueOf, numbers, encoded, bits16, signed16, areBelow}
 use Rattle.encoding.proofs.Writing.{length-bytes, length-encoded}
 
 -- ---- lists
 
-module _ {A : Type 0} (f : A → Bool) where
-  pub all-drop : (n : ℕ) (xs : List A) → T (all f xs) → T (all f (drop n xs))
-  all-drop zero xs t = t
-  all-drop (suc n) [] t = t
-  all-drop (suc n) (x ∷ xs) t = all-drop n xs (and-right (f x) (all f xs) t)
-
 -- a map that another takes back wherever a test holds
 module _ {A B : Type 0} (f : A → B) (g : B → A) (test : A → Bool) (back : (a : A) → T (test a) → g (f a) ≡ a) where
   pub map-back : (l : List A) → T (all test l) → map g (map f l) ≡ l
   map-back [] t = refl
   map-back (a ∷ l) t = ap₂ (λ (x : A) (xs : List A). x ∷ xs) (back a (and-left (test a) (all test l) t)) (map-back l (and-right (test a) (all test l) t))
-
--- a map whose results pass a test wherever its arguments do
-module _ {A B : Type 0} (f : A → B) (test : A → Bool) (result : B → Bool) (passes : (a : A) → T (test a) → T (result (f a))) where
-  pub all-map : (l : List A) → T (all test l) → T (all result (map f l))
-  all-map [] t = tt
-  all-map (a ∷ l) t = and-intro (result (f a)) (all result (map f l)) (passes a (and-left (test a) (all test l) t)) (all-map l (and-right (test a) (all test l) t))
 
 -- ---- a number
 
