@@ -6,7 +6,7 @@ use mathlib.Core.List.{List, [], _∷_, _++_, map}
 use Prim.Native.Nat.{ℕ, zero, suc, _+_, _<_, zero-le, suc-le-suc}
 use native.Mathlib.Nat.{le-of-suc-le-suc, not-suc-le-zero}
 use native.Mathlib.Numerals.{add-one}
-use lib.Dec.{T}
+use lib.Dec.{T, ltb, ltb→lt}
 use lib.ListN.{length, getD, take, drop, set}
 use lib.Seq.{take-suc}
 use Rattle.algebra.specs.All.{all}
@@ -42,6 +42,10 @@ module _ {A : Type 0} (f : A → Bool) where
   all-set [] i v h t = h
   all-set (x ∷ xs) zero v h t = and-intro (f v) (all f xs) t (and-right (f x) (all f xs) h)
   all-set (x ∷ xs) (suc i) v h t = and-intro (f x) (all f (set xs i v)) (and-left (f x) (all f xs) h) (all-set xs i v (and-right (f x) (all f xs) h) t)
+
+-- numbers that are each below n
+pub below-at : (n : ℕ) (vs : List ℕ) → T (all (λ (v : ℕ). ltb v n) vs) → (i : ℕ) → i < length vs → getD vs i 0 < n
+below-at n vs t i h = ltb→lt (getD vs i 0) n (all-at (λ (v : ℕ). ltb v n) vs 0 t i h)
 
 -- a weaker test
 pub all-weaker : {A : Type 0} (f g : A → Bool) → ((x : A) → T (f x) → T (g x)) → (xs : List A) → T (all f xs) → T (all g xs)

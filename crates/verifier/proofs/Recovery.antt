@@ -5,17 +5,16 @@ use mathlib.Core.List.{List, [], _∷_}
 use Prim.Native.Nat.{ℕ, zero, suc, _+_, _-_, _*_, _%_, _<_}
 use native.Mathlib.Nat.{mod-lt, le-of-suc-le-suc, not-suc-le-zero}
 use native.Mathlib.Omega.{arith}
-use lib.Dec.{ltb, ltb→lt}
 use lib.IntN.{ℤ, pos, _+ℤ_, _-ℤ_}
 use lib.ListN.{length, getD, take, set}
 use lib.Seq.{take-all}
 use Rattle.algebra.specs.Integer.{residue}
 use Rattle.algebra.proofs.Congruence.{cong-refl, cong-sym, cong-trans, cong-add, cong-neg, cong-residue, residue-eq}
-use Rattle.algebra.proofs.All.{all-at}
+use Rattle.algebra.proofs.All.{below-at}
 use Rattle.algebra.proofs.List.{copy-more}
 use Rattle.algebra.proofs.Ring.{ring, cancel-right}
 use Rattle.parameters.specs.declared.Params.{Params}
-use Rattle.polynomial.specs.Evaluation.{evaluations, Below, Evaluable}
+use Rattle.polynomial.specs.Evaluation.{evaluations, Evaluable}
 use Rattle.polynomial.proofs.EvaluationLaws.{length-evaluations, evaluations-below}
 use Rattle.scheme.specs.Scheme.{recovered}
 use Rattle.verifier.specs.Verifier.{Checkable, Recoverable, differences}
@@ -77,11 +76,6 @@ module _ {p : Params} {powers points vs : List ℕ} {c z : List ℤ} (asked : Ch
   pub evaluable : (f : List ℤ) → length f ≡ p .n → Evaluable p powers f
   evaluable f size = record { sound = asked .sound; fitting = asked .fitting; table = asked .table; size = size }
 
-  below : (f : List ℤ) → Below (p .q) (evaluations p f points)
-  below f i h =
-      ltb→lt (getD (evaluations p f points) i 0) (p .q)
-      (all-at (λ (v : ℕ). ltb v (p .q)) (evaluations p f points) 0 (evaluations-below (asked .sound) f points) i h)
-
   recoverable : Recoverable (p .q) vs (evaluations p c points) (evaluations p z points)
   recoverable =
       let of-challenge = length-evaluations p c points in
@@ -92,8 +86,8 @@ module _ {p : Params} {powers points vs : List ℕ} {c z : List ℤ} (asked : Ch
         evaluations-size = asked .evaluations-size ∙ sym (of-point ∙ asked .points-size);
         challenge-size = of-challenge ∙ sym of-point;
         evaluations-below = asked .evaluations-below;
-        challenge-below = below c;
-        point-below = below z;
+        challenge-below = below-at (p .q) (evaluations p c points) (evaluations-below (asked .sound) c points);
+        point-below = below-at (p .q) (evaluations p z points) (evaluations-below (asked .sound) z points);
       }
 
   module _ (wide : List ℤ) (front : take (length c) wide ≡ c) where
