@@ -1,24 +1,16 @@
--- A test of every element: what it gives at each place, and when a loop that tests one place after the other is done.
+-- A test of every element: what it gives at each place, which other lists then pass, and when a loop that tests one place after the other is done.
 -- Assumes nothing.
 use mathlib.Core.Path.{_≡_, refl, sym, ap, _∙_}
-use mathlib.Core.Bool.{Bool, true, false, _&&_}
-use mathlib.Core.List.{List, [], _∷_, _++_}
+use mathlib.Core.Bool.{Bool, _&&_, and-assoc, and-true}
+use mathlib.Core.List.{List, [], _∷_, _++_, map}
 use Prim.Native.Nat.{ℕ, zero, suc, _+_, _<_, zero-le, suc-le-suc}
 use native.Mathlib.Nat.{le-of-suc-le-suc, not-suc-le-zero}
 use native.Mathlib.Numerals.{add-one}
-use lib.Dec.{T}
-use lib.ListN.{length, getD, take}
+use lib.Dec.{T, ltb, ltb→lt}
+use lib.ListN.{length, getD, take, drop, set}
 use lib.Seq.{take-suc}
 use Rattle.algebra.specs.All.{all}
 use Rattle.algebra.proofs.Test.{and-left, and-right, and-intro}
-
-and-assoc : (a b c : Bool) → (a && b) && c ≡ a && (b && c)
-and-assoc true b c = refl
-and-assoc false b c = refl
-
-and-true : (a : Bool) → a && true ≡ a
-and-true true = refl
-and-true false = refl
 
 module _ {A : Type 0} (f : A → Bool) where
   -- the test passes at each place of a list that passes whole: a table's rule from one computed test
@@ -40,3 +32,28 @@ module _ {A : Type 0} (f : A → Bool) where
   all-more xs i d h =
       ap (λ (n : ℕ). all f (take n xs)) (add-one i) ∙ ap (λ (l : List A). all f l) (take-suc xs i d h)
       ∙ all-append (take i xs) (getD xs i d ∷ []) ∙ ap (λ (b : Bool). all f (take i xs) && b) (and-true (f (getD xs i d)))
+
+  pub all-drop : (n : ℕ) (xs : List A) → T (all f xs) → T (all f (drop n xs))
+  all-drop zero xs t = t
+  all-drop (suc n) [] t = t
+  all-drop (suc n) (x ∷ xs) t = all-drop n xs (and-right (f x) (all f xs) t)
+
+  pub all-set : (xs : List A) (i : ℕ) (v : A) → T (all f xs) → T (f v) → T (all f (set xs i v))
+  all-set [] i v h t = h
+  all-set (x ∷ xs) zero v h t = and-intro (f v) (all f xs) t (and-right (f x) (all f xs) h)
+  all-set (x ∷ xs) (suc i) v h t = and-intro (f x) (all f (set xs i v)) (and-left (f x) (all f xs) h) (all-set xs i v (and-right (f x) (all f xs) h) t)
+
+-- numbers that are each below n
+pub below-at : (n : ℕ) (vs : List ℕ) → T (all (λ (v : ℕ). ltb v n) vs) → (i : ℕ) → i < length vs → getD vs i 0 < n
+below-at n vs t i h = ltb→lt (getD vs i 0) n (all-at (λ (v : ℕ). ltb v n) vs 0 t i h)
+
+-- a weaker test
+pub all-weaker : {A : Type 0} (f g : A → Bool) → ((x : A) → T (f x) → T (g x)) → (xs : List A) → T (all f xs) → T (all g xs)
+all-weaker f g h [] t = tt
+all-weaker f g h (x ∷ xs) t = and-intro (g x) (all g xs) (h x (and-left (f x) (all f xs) t)) (all-weaker f g h xs (and-right (f x) (all f xs) t))
+
+-- a map whose results pass a test wherever its arguments do
+module _ {A B : Type 0} (f : A → B) (test : A → Bool) (result : B → Bool) (passes : (a : A) → T (test a) → T (result (f a))) where
+  pub all-map : (l : List A) → T (all test l) → T (all result (map f l))
+  all-map [] t = tt
+  all-map (a ∷ l) t = and-intro (result (f a)) (all result (map f l)) (passes a (and-left (test a) (all test l) t)) (all-map l (and-right (test a) (all test l) t))

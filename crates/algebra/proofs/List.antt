@@ -1,11 +1,12 @@
--- Lists as loops fill them, from the front, one store a turn. Over any element.
+-- Lists as loops fill them, from the front, one store a turn, and lists of one size joined. Over any element.
 -- Assumes nothing.
 use mathlib.Core.Path.{_≡_, refl, sym, ap, _∙_}
-use mathlib.Core.List.{List, [], _∷_, _++_, map, map-append}
-use Prim.Native.Nat.{ℕ, zero, suc, _+_, _-_, _≤_, _<_}
+use mathlib.Core.List.{List, [], _∷_, _++_, map, map-append, flatten}
+use Prim.Native.Nat.{ℕ, zero, suc, _+_, _-_, _*_, _≤_, _<_, zero-le, suc-le-suc}
+use native.Mathlib.Nat.{zero-mul, suc-mul}
 use native.Mathlib.Numerals.{add-one}
 use native.Mathlib.Omega.{arith}
-use lib.ListN.{length, getD, take, set, replicate}
+use lib.ListN.{length, getD, take, set, replicate, length-append}
 use lib.Seq.{take-suc, take-suc-set, take-all, getD-append-add}
 
 module _ {ℓ} {A : Type ℓ} where
@@ -48,3 +49,10 @@ pub take-replicate : {A : Type 0} (n m : ℕ) (a : A) → n ≤ m → take n (re
 take-replicate zero m a h = refl
 take-replicate (suc n) zero a h = absurd (omega arith)
 take-replicate {A} (suc n) (suc m) a h = ap (λ (l : List A). a ∷ l) (take-replicate n m a (omega arith))
+
+-- lists of n elements each, joined
+pub flatten-length : {A : Type 0} (n : ℕ) (ls : List (List A)) → ((k : ℕ) → k < length ls → length (getD ls k []) ≡ n) → length (flatten ls) ≡ length ls * n
+unfolding flatten
+flatten-length n [] h = sym (zero-mul n)
+flatten-length n (l ∷ ls) h =
+    length-append l (flatten ls) ∙ omega (arith, h 0 (suc-le-suc zero-le), flatten-length n ls (λ k s. h (suc k) (suc-le-suc s)), suc-mul (length ls) n)

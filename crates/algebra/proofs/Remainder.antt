@@ -2,19 +2,16 @@
 -- Assumes nothing.
 use mathlib.Core.Path.{_≡_, sym, ap, _∙_}
 use Prim.Native.Nat.{ℕ, zero, suc, _+_, _-_, _*_, _/_, _%_, _^_, _<_, _≤_}
-use native.Mathlib.Nat.{mod-lt, mod-eq-of-lt, mod-eq-sub-mod, mul-add-mod-self-right, div-add-mod', mul-comm, mul-assoc, add-mul, suc-mul, zero-mul, one-mul, le-of-lt, mul-le-mul-left, mul-lt-mul-of-pos-right, lt-of-le-of-lt}
+use native.Mathlib.Nat.{mod-lt, mod-eq-of-lt, mod-eq-sub-mod, mul-add-mod-self-right, div-add-mod', mul-right-comm, add-mul, suc-mul, zero-mul, one-mul, le-of-lt, mul-le-mul-left, mul-lt-mul-of-pos-right, lt-of-le-of-lt}
 use native.Mathlib.Omega.{arith}
 use lib.Pow.{pow-add}
-
-swap-last : (a b c : ℕ) → a * b * c ≡ a * c * b
-swap-last a b c = rw (mul-assoc a b c, mul-comm b c, ← mul-assoc a c b)
 
 -- a factor may be reduced first
 pub mod-mul-left : (a b q : ℕ) → a % q * b % q ≡ a * b % q
 mod-mul-left a b q =
     sym
     (ap (λ (x : ℕ). x * b % q) (sym (div-add-mod' a q))
-    ∙ ap (λ (x : ℕ). x % q) (add-mul (a / q * q) (a % q) b ∙ ap (λ (x : ℕ). x + a % q * b) (swap-last (a / q) q b))
+    ∙ ap (λ (x : ℕ). x % q) (add-mul (a / q * q) (a % q) b ∙ ap (λ (x : ℕ). x + a % q * b) (mul-right-comm (a / q) q b))
     ∙ mul-add-mod-self-right (a / q * b) q (a % q * b))
 
 pub product-below : {a b m n : ℕ} → a < m → b < n → a * b < m * n

@@ -11,8 +11,8 @@ use lib.Dec.{T, leb, eqb}
 use lib.IntN.{ℤ, pos, natAbs}
 use lib.ListN.{length, set, replicate, length-append, length-set, length-replicate, getD-replicate}
 use lib.Seq.{getD-set-other}
-use Rattle.algebra.specs.All.{all}
-use Rattle.algebra.proofs.Test.{and-left, and-right, and-intro, pick-by, by-test}
+use Rattle.algebra.proofs.All.{all-set}
+use Rattle.algebra.proofs.Test.{pick-by, by-test}
 use Rattle.parameters.specs.declared.Params.{Params}
 use Rattle.polynomial.specs.Polynomial.{coefficient, ternary, weight}
 use Rattle.challenge.specs.Pool.{pool}
@@ -30,12 +30,6 @@ neither true b e = absurd (false≢true (sym e))
 neither false b e = (refl, e)
 
 -- one coefficient is set
-
-all-set : {A : Type 0} (f : A → Bool) (xs : List A) (i : ℕ) (v : A) → T (all f xs) → T (f v) → T (all f (set xs i v))
-all-set f [] i v h t = h
-all-set f (x ∷ xs) zero v h t = and-intro (f v) (all f xs) t (and-right (f x) (all f xs) h)
-all-set f (x ∷ xs) (suc i) v h t =
-    and-intro (f x) (all f (set xs i v)) (and-left (f x) (all f xs) h) (all-set f xs i v (and-right (f x) (all f xs) h) t)
 
 weight-set : (c : List ℤ) (i : ℕ) (v : ℤ) → i < length c → coefficient c i ≡ pos 0 → weight (set c i v) ≡ weight c + natAbs v
 weight-set [] i v h e = absurd (omega arith)

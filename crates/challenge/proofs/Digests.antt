@@ -6,8 +6,8 @@ use mathlib.Core.Logic.{⊎-elim}
 use Prim.Native.Nat.{ℕ, zero, suc, _-_, _*_, _/_, _%_, _≤_, _<_, zero-le, suc-le-suc}
 use native.Mathlib.Nat.{not-suc-le-zero}
 use native.Mathlib.Omega.{arith}
-use lib.ListN.{length, getD, length-append, List·getD-append}
-use Rattle.algebra.proofs.List.{getD-after}
+use lib.ListN.{length, getD, List·getD-append}
+use Rattle.algebra.proofs.List.{getD-after, flatten-length}
 use Rattle.algebra.proofs.Test.{lt-or-le}
 use Rattle.sha512.specs.Digest.{SHA-512}
 use Rattle.sha512.proofs.Digest.{digest-length}
@@ -20,17 +20,10 @@ Digests ds = (k : ℕ) → k < length ds → length (getD ds k []) ≡ 64
 rest : (d : List ℕ) (ds : List (List ℕ)) → Digests (d ∷ ds) → Digests ds
 rest d ds h k l = h (suc k) (suc-le-suc l)
 
-pub flatten-length : (ds : List (List ℕ)) → Digests ds → length (flatten ds) ≡ 64 * length ds
+pub pool-byte-at : (ds : List (List ℕ)) (i : ℕ) → Digests ds → i < 64 * length ds → getD (flatten ds) i 0 ≡ getD (getD ds (i / 64) []) (i % 64) 0
 unfolding flatten
-flatten-length [] h = refl
-flatten-length (d ∷ ds) h =
-    let e : length d ≡ 64 = h 0 (suc-le-suc zero-le) in
-    rw (length-append, e, flatten-length ds (rest d ds h)) (omega arith)
-
-pub flatten-at : (ds : List (List ℕ)) (i : ℕ) → Digests ds → i < 64 * length ds → getD (flatten ds) i 0 ≡ getD (getD ds (i / 64) []) (i % 64) 0
-unfolding flatten
-flatten-at [] i h l = absurd (omega arith)
-flatten-at (d ∷ ds) i h l =
+pool-byte-at [] i h l = absurd (omega arith)
+pool-byte-at (d ∷ ds) i h l =
     let e : length d ≡ 64 = h 0 (suc-le-suc zero-le) in
     ⊎-elim
     (λ (q : i < 64).
@@ -40,7 +33,7 @@ flatten-at (d ∷ ds) i h l =
     (λ (q : 64 ≤ i).
     let z : i / 64 ≡ suc ((i - 64) / 64) = omega arith in
     let m : i % 64 ≡ (i - 64) % 64 = omega arith in
-    getD-after d (flatten ds) i 0 (omega arith) ∙ rw (e, z, m) (flatten-at ds (i - 64) (rest d ds h) (omega arith)))
+    getD-after d (flatten ds) i 0 (omega arith) ∙ rw (e, z, m) (pool-byte-at ds (i - 64) (rest d ds h) (omega arith)))
     (lt-or-le i 64)
 
 digests-count : (n : ℕ) (d : List ℕ) → length (digests n d) ≡ n
@@ -74,4 +67,4 @@ pub pool-length : (w message : List ℕ) → length (pool w message) ≡ 512
 unfolding pool
 pool-length w message =
     let bytes = commitmentBytes w in
-    flatten-length (poolDigests bytes message) (pool-sized bytes message) ∙ ap (λ (n : ℕ). 64 * n) (pool-count bytes message)
+    flatten-length 64 (poolDigests bytes message) (pool-sized bytes message) ∙ ap (λ (n : ℕ). n * 64) (pool-count bytes message)

@@ -15,7 +15,7 @@ fn low_byte(e: u32) -> u8
 }
 
 // The commitment bytes, in front.
-pub fn commitment_bytes(evaluations: &[u32]) -> [u8; 1152]
+fn commitment_bytes(evaluations: &[u32]) -> [u8; 1152]
     requires { ⌜ length (now evaluations) ≤ 1152 ⌝ }
     ensures { λ r. ⌜ take (length (now (evaluations .entry))) r ≡ commitmentBytes (now (evaluations .entry)) ⌝ }
 {

@@ -14,30 +14,18 @@ use lib.Seq.{take-suc, take-add, take-at, drop-at, take-all}
 use lib.Signed.{mag}
 use borrow.Author.Tests.{lt-ltb, le-ltb}
 use Rattle.algebra.specs.All.{all}
-use Rattle.algebra.proofs.All.{all-at}
+use Rattle.algebra.proofs.All.{all-drop, below-at}
 use Rattle.algebra.proofs.Test.{and-left, and-right, and-intro, by-test}
 use Rattle.encoding.specs.Bytes.{bigEndian, valueAfter, valueOf, numbers, encoded, bits16, signed16, areBelow}
 use Rattle.encoding.proofs.Writing.{length-bytes, length-encoded}
 
 -- ---- lists
 
-module _ {A : Type 0} (f : A → Bool) where
-  pub all-drop : (n : ℕ) (xs : List A) → T (all f xs) → T (all f (drop n xs))
-  all-drop zero xs t = t
-  all-drop (suc n) [] t = t
-  all-drop (suc n) (x ∷ xs) t = all-drop n xs (and-right (f x) (all f xs) t)
-
 -- a map that another takes back wherever a test holds
 module _ {A B : Type 0} (f : A → B) (g : B → A) (test : A → Bool) (back : (a : A) → T (test a) → g (f a) ≡ a) where
   pub map-back : (l : List A) → T (all test l) → map g (map f l) ≡ l
   map-back [] t = refl
   map-back (a ∷ l) t = ap₂ (λ (x : A) (xs : List A). x ∷ xs) (back a (and-left (test a) (all test l) t)) (map-back l (and-right (test a) (all test l) t))
-
--- a map whose results pass a test wherever its arguments do
-module _ {A B : Type 0} (f : A → B) (test : A → Bool) (result : B → Bool) (passes : (a : A) → T (test a) → T (result (f a))) where
-  pub all-map : (l : List A) → T (all test l) → T (all result (map f l))
-  all-map [] t = tt
-  all-map (a ∷ l) t = and-intro (result (f a)) (all result (map f l)) (passes a (and-left (test a) (all test l) t)) (all-map l (and-right (test a) (all test l) t))
 
 -- ---- a number
 
@@ -52,16 +40,13 @@ value-of-bytes (suc w) v h =
     let l : v / 256 < 256 ^ w = div-lt-iff-lt-mul {k = 256} (lit< tt) .1 (rw (pow-suc 256 w) at h) in
     value-append 0 (bigEndian w (v / 256)) (v % 256) ∙ ap (λ (x : ℕ). x * 256 + v % 256) (value-of-bytes w (v / 256) l) ∙ div-add-mod' v 256
 
-byte-at : (xs : List ℕ) (i : ℕ) → i < length xs → T (areBelow 256 xs) → getD xs i 0 < 256
-byte-at xs i h t = ltb→lt (getD xs i 0) 256 (all-at (λ (y : ℕ). ltb y 256) xs 0 t i h)
-
 bytes-of-value : (w : ℕ) (xs : List ℕ) → w ≤ length xs → T (areBelow 256 xs) → bigEndian w (valueOf (take w xs)) ≡ take w xs
 unfolding bigEndian
 bytes-of-value zero xs h t = refl
 bytes-of-value (suc w) xs h t =
     let x : ℕ = getD xs w 0 in
     let v : ℕ = valueOf (take w xs) in
-    let b : x < 256 = byte-at xs w h t in
+    let b : x < 256 = below-at 256 xs t w h in
     let e : valueOf (take (suc w) xs) ≡ v * 256 + x = ap valueOf (take-suc xs w 0 h) ∙ value-append 0 (take w xs) x in
     ap (bigEndian (suc w)) e
     ∙ ap₂ (λ (q r : ℕ). bigEndian w q ++ (r ∷ [])) (digits-div v b) (digits-mod v b)
@@ -71,7 +56,7 @@ value-below : (w : ℕ) (xs : List ℕ) → w ≤ length xs → T (areBelow 256 
 value-below zero xs h t = omega (arith, pow-zero 256)
 value-below (suc w) xs h t =
     rw (take-suc xs w 0 h, value-append 0 (take w xs) (getD xs w 0), pow-suc 256 w)
-    (digits-lt (value-below w xs (omega arith) t) (byte-at xs w h t))
+    (digits-lt (value-below w xs (omega arith) t) (below-at 256 xs t w h))
 
 -- ---- lists of numbers
 

@@ -2,6 +2,7 @@ pub mod Reading
 pub mod Writing
 pub mod Sign
 pub mod Testing
+pub mod Range
 pub mod Entries
 pub mod Inverse
 pub mod EntriesInverse

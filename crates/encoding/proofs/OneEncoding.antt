@@ -2,15 +2,16 @@
 -- Assumes nothing.
 use mathlib.Core.Path.{_≡_, refl, sym, ap, ap₂, _∙_}
 use mathlib.Core.List.{List, [], _∷_, _++_, map}
-use Prim.Native.Nat.{ℕ, zero, suc, _+_, _*_, _^_, _≤_, _<_}
+use Prim.Native.Nat.{ℕ, zero, suc, _+_, _*_, _≤_, _<_}
 use native.Mathlib.Nat.{not-suc-le-zero}
 use native.Mathlib.Omega.{arith}
 use lib.Dec.{T, ltb, leb, eqb, leb→le}
 use lib.IntN.{ℤ, pos, negsuc, natAbs}
-use lib.ListN.{length, getD, take, drop, length-append, length-drop, length-map}
+use lib.ListN.{length, getD, drop, length-append, length-drop, length-map}
 use lib.Signed.{mag}
 use borrow.Author.Tests.{ne-eqb, eqb-true}
 use Rattle.algebra.specs.Integer.{within}
+use Rattle.algebra.proofs.All.{all-drop, all-map}
 use Rattle.algebra.proofs.Test.{by-test}
 use Rattle.parameters.specs.declared.Params.{Params}
 use Rattle.encoding.specs.Bytes.{numbers, encoded, bits16, signed16, areBelow}
@@ -19,23 +20,6 @@ use Rattle.encoding.specs.Encoding.{secretKeySize, isKeyByte, keyCoeffic
 use Rattle.encoding.proofs.Writing.{length-encoded}
 use Rattle.encoding.proofs.Inverse as inverse
 use Rattle.encoding.proofs.EntriesInverse as entries-inverse
-
--- ---- numbers
-
--- numbers of w bytes that are written, with any bytes behind them, are read back
-pub numbers-read-back : (w : ℕ) (vs rest : List ℕ) → T (areBelow (256 ^ w) vs) → numbers w (length vs) (encoded w vs ++ rest) ≡ vs
-numbers-read-back = inverse.numbers-of-encoded
-
--- bytes that are read as numbers of w bytes are written back
-pub numbers-written-back : (w count : ℕ) (xs : List ℕ) → w * count ≤ length xs → T (areBelow 256 xs) → encoded w (numbers w count xs) ≡ take (w * count) xs
-numbers-written-back = inverse.encoded-of-numbers
-
--- the same of 16 bits and the signed number that they are
-pub signed-read-back : (z : ℤ) → T (ltb (mag z) 32768) → signed16 (bits16 z) ≡ z
-signed-read-back = inverse.signed-of-bits
-
-pub signed-written-back : (v : ℕ) → T (ltb v 65536) → bits16 (signed16 v) ≡ v
-signed-written-back = inverse.bits-of-signed
 
 -- ---- a secret key
 
@@ -59,7 +43,7 @@ bytes-back (x ∷ xs) = ap₂ (λ (y : ℕ) (l : List ℕ). y ∷ l) (byte-back 
 -- a key that is written has bytes that are allowed, and is read back
 pub key-accepted : (s : ℕ) (f : List ℤ) → T (within 1 f) → T (isKey (secretKey s f))
 unfolding isKey secretKey
-key-accepted s f t = inverse.all-map keyByte (λ (z : ℤ). leb (natAbs z) 1) isKeyByte byte-of-key f t
+key-accepted s f t = all-map keyByte (λ (z : ℤ). leb (natAbs z) 1) isKeyByte byte-of-key f t
 
 pub key-read-back : (s : ℕ) (f : List ℤ) → T (within 1 f) → keyOf (secretKey s f) ≡ f
 unfolding keyOf secretKey
@@ -70,10 +54,6 @@ pub key-written-back : (xs : List ℕ) → 0 < length xs → secretKey (getD xs 
 unfolding keyOf secretKey
 key-written-back [] h = absurd (not-suc-le-zero h)
 key-written-back (x ∷ xs) h = ap (λ (l : List ℕ). x ∷ l) (bytes-back xs)
-
-pub secret-key-length : (p : Params) (s : ℕ) (f : List ℤ) → length f ≡ p .n → length (secretKey s f) ≡ secretKeySize p
-unfolding secretKey
-secret-key-length p s f l = omega (arith, length-map f keyByte)
 
 -- ---- a public key
 
@@ -100,7 +80,7 @@ unfolding publicKey pointsOf evaluationsOf
 public-key-written-back p [] l t = absurd (omega arith)
 public-key-written-back p (x ∷ xs) l t =
     let e : 1 + 2 * p .t ≡ suc (2 * p .t) = omega arith in
-    rw e (ap (λ (y : List ℕ). x ∷ y) (inverse.written-both 2 (p .t) 3 (p .t) xs (omega arith) (inverse.all-drop (λ (y : ℕ). ltb y 256) 1 (x ∷ xs) t)))
+    rw e (ap (λ (y : List ℕ). x ∷ y) (inverse.written-both 2 (p .t) 3 (p .t) xs (omega arith) (all-drop (λ (y : ℕ). ltb y 256) 1 (x ∷ xs) t)))
 
 -- ---- a signature
 
@@ -114,7 +94,7 @@ module _ (p : Params) (s : ℕ) (entries : List ℕ) (z : List ℤ) (r : Signatu
   unfolding pointRead signatureBytes
   point-read-back =
       let e : 1 + 2 * p .b ≡ suc (2 * p .b) = omega arith in
-      let b : T (areBelow 65536 (map bits16 z)) = inverse.all-map bits16 (λ (y : ℤ). ltb (mag y) 32768) (λ (v : ℕ). ltb v 65536) inverse.bits-below z (r .point-signed) in
+      let b : T (areBelow 65536 (map bits16 z)) = all-map bits16 (λ (y : ℤ). ltb (mag y) 32768) (λ (v : ℕ). ltb v 65536) inverse.bits-below z (r .point-signed) in
       rw e
       (ap (map signed16) (inverse.read-second 2 (p .b) 2 (p .n) entries (map bits16 z) (r .entries-length) (length-map z bits16 ∙ r .point-length) b)
       ∙ inverse.map-back bits16 signed16 (λ (y : ℤ). ltb (mag y) 32768) inverse.signed-of-bits z (r .point-signed))
@@ -138,22 +118,12 @@ unfolding signatureBytes entriesRead pointRead
 signature-written-back p [] l t = absurd (omega arith)
 signature-written-back p (x ∷ xs) l t =
     let e : 1 + 2 * p .b ≡ suc (2 * p .b) = omega arith in
-    let bytes : T (areBelow 256 xs) = inverse.all-drop (λ (y : ℕ). ltb y 256) 1 (x ∷ xs) t in
+    let bytes : T (areBelow 256 xs) = all-drop (λ (y : ℕ). ltb y 256) 1 (x ∷ xs) t in
     let point : List ℕ = numbers 2 (p .n) (drop (2 * p .b) xs) in
-    let below : T (areBelow 65536 point) = inverse.numbers-below 2 (p .n) (drop (2 * p .b) xs) (omega (arith, length-drop (2 * p .b) xs)) (inverse.all-drop (λ (y : ℕ). ltb y 256) (2 * p .b) xs bytes) in
+    let below : T (areBelow 65536 point) = inverse.numbers-below 2 (p .n) (drop (2 * p .b) xs) (omega (arith, length-drop (2 * p .b) xs)) (all-drop (λ (y : ℕ). ltb y 256) (2 * p .b) xs bytes) in
     rw e
     (ap (λ (y : List ℕ). x ∷ (encoded 2 (numbers 2 (p .b) xs) ++ encoded 2 y)) (inverse.map-back signed16 bits16 (λ (v : ℕ). ltb v 65536) inverse.bits-of-signed point below)
     ∙ ap (λ (y : List ℕ). x ∷ y) (inverse.written-both 2 (p .b) 2 (p .n) xs (omega arith) bytes))
-
--- two signatures with the same bytes are the same
-pub signature-injective : (p : Params) (s s' : ℕ) (entries entries' : List ℕ) (z z' : List ℤ) → SignatureRange p entries z → SignatureRange p entries' z'
-    → signatureBytes s entries z ≡ signatureBytes s' entries' z' → (s ≡ s') × (entries ≡ entries') × (z ≡ z')
-unfolding signatureBytes
-signature-injective p s s' entries entries' z z' r r' e = (
-  ap (λ (l : List ℕ). getD l 0 0) e,
-  sym (entries-read-back p s entries z r) ∙ ap (entriesRead p) e ∙ entries-read-back p s' entries' z' r',
-  sym (point-read-back p s entries z r) ∙ ap (pointRead p) e ∙ point-read-back p s' entries' z' r',
-)
 
 -- ---- a challenge
 
@@ -178,7 +148,7 @@ pub signature-of-meaning : (p : Params) (xs : List ℕ) → length xs ≡ signat
     → signatureBytes (getD xs 0 0) (entriesOf (challengeOf (p .n) (entriesRead p xs))) (pointRead p xs) ≡ xs
 unfolding entriesRead
 signature-of-meaning p xs l t allowed =
-    let below : T (areBelow 65536 (entriesRead p xs)) = inverse.numbers-below 2 (p .b) (drop 1 xs) (omega (arith, length-drop 1 xs)) (inverse.all-drop (λ (y : ℕ). ltb y 256) 1 xs t) in
+    let below : T (areBelow 65536 (entriesRead p xs)) = inverse.numbers-below 2 (p .b) (drop 1 xs) (omega (arith, length-drop 1 xs)) (all-drop (λ (y : ℕ). ltb y 256) 1 xs t) in
     ap (λ (es : List ℕ). signatureBytes (getD xs 0 0) es (pointRead p xs)) (entries-written-back (p .n) (entriesRead p xs) allowed below) ∙ signature-written-back p xs l t
 
 -- two byte strings that are accepted, with the same first byte and the same meaning, are the same bytes; asked of them is only what is used of their being accepted

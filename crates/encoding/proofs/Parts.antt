@@ -11,8 +11,8 @@ use borrow.Rule.Slice.PartMut.{putMid}
 use Rattle.encoding.specs.Bytes.{valueOf, numbers, parts}
 
 -- all from element k on
-pub rest : {A : Type 0} (l : List A) (k : ℕ) → take (length l - k) (drop k l) ≡ drop k l
-rest l k = take-all (length l - k) (drop k l) (omega (arith, length-drop k l))
+pub take-rest : {A : Type 0} (l : List A) (k : ℕ) → take (length l - k) (drop k l) ≡ drop k l
+take-rest l k = take-all (length l - k) (drop k l) (omega (arith, length-drop k l))
 
 -- m elements after the first
 pub part-size : (l : List ℕ) (m : ℕ) → 1 + m ≤ length l → length (take (1 + m - 1) (drop 1 l)) ≡ m
@@ -66,7 +66,7 @@ module _ {A : Type 0} (n : ℕ) where
       ∙ ap (take n) (drop-drop (i * n) n l ∙ ap (λ (m : ℕ). drop m l) (sym (times n i)))
 
   -- the first parts, and those after them
-  parts-add : (a b : ℕ) (l : List A) → parts n (a + b) l ≡ parts n a l ++ parts n b (drop (a * n) l)
+  pub parts-add : (a b : ℕ) (l : List A) → parts n (a + b) l ≡ parts n a l ++ parts n b (drop (a * n) l)
   parts-add zero b l = let e : 0 + b ≡ b = omega arith in rw (zero-mul n, e)
   parts-add (suc a) b l =
       let e : suc a + b ≡ suc (a + b) = omega arith in

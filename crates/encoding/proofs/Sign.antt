@@ -7,8 +7,8 @@ use native.Mathlib.Omega.{arith}
 use lib.IntN.{ℤ, pos, negsuc, _-ℤ_, natAbs}
 use lib.Pow.{pow-pos}
 use lib.Signed.{mag}
-use mir.Syntax.{Width, w16, w32}
-use mir.Val.{SFits, toZ, ofZ, hbits}
+use mir.Syntax.{Width, w16}
+use mir.Val.{toZ, ofZ, hbits}
 use mir.Facts.{toZ-ofZ, toZ-pos}
 use borrow.Author.Tests.{lt-ltb, le-ltb}
 use Rattle.encoding.specs.Bytes.{signed16}
@@ -29,14 +29,6 @@ module _ (w : Width) (z : ℤ) (h : mag z < 2 ^ hbits w) where
 
   pub zero-bits : ofZ w z ≡ 0 → z ≡ pos 0
   zero-bits e = sym reread ∙ ap (toZ w) e ∙ toZ-pos w (pow-pos (hbits w))
-
--- a number of 16 bits, widened
-module _ (z : ℤ) (h : mag z < 2 ^ 15) where
-  pub widens : SFits w32 (toZ w16 (ofZ w16 z))
-  widens = rw (reread w16 z h) (record { sfits = omega arith })
-
-  pub widened : toZ w32 (ofZ w32 (toZ w16 (ofZ w16 z))) ≡ z
-  widened = toZ-ofZ {w = w32} widens ∙ reread w16 z h
 
 -- ---- 16 bits read as a signed number
 

@@ -2,15 +2,15 @@
 -- Assumes nothing.
 use mathlib.Core.Path.{_≡_, _∙_}
 use mathlib.Core.Bool.{true}
-use mathlib.Core.List.{List, [], _∷_, map}
+use mathlib.Core.List.{List}
 use Prim.Native.Nat.{ℕ}
 use native.Mathlib.Omega.{arith}
 use lib.Dec.{T, eqb, leb}
-use lib.IntN.{natAbs}
+use lib.IntN.{ℤ, natAbs}
 use lib.ListN.{length, drop, length-map, length-drop}
 use borrow.Author.Tests.{eqb-true}
-use Rattle.algebra.specs.All.{all}
-use Rattle.algebra.proofs.Test.{and-left, and-right, and-intro, true-holds, by-test}
+use Rattle.algebra.proofs.All.{all-map}
+use Rattle.algebra.proofs.Test.{true-holds, by-test}
 use Rattle.parameters.specs.declared.Params.{Params}
 use Rattle.polynomial.specs.Polynomial.{ternary}
 use Rattle.encoding.specs.Encoding.{secretKeySize, isKeyByte, keyCoefficient, isKey, keyOf}
@@ -22,15 +22,9 @@ key-byte x t =
     (λ z. rw (eqb-true x 0 z) tt)
     (λ z. by-test (eqb x 1) (λ o. rw (eqb-true x 1 o) tt) (λ o. absurd (rw (e, z, o) at t))))
 
-key-bytes : (xs : List ℕ) → T (all isKeyByte xs) → T (ternary (map keyCoefficient xs))
-key-bytes [] t = tt
-key-bytes (x ∷ xs) t =
-    and-intro (leb (natAbs (keyCoefficient x)) 1) (ternary (map keyCoefficient xs)) (key-byte x (and-left (isKeyByte x) (all isKeyByte xs) t))
-    (key-bytes xs (and-right (isKeyByte x) (all isKeyByte xs) t))
-
 pub key-ternary : (key : List ℕ) → isKey key ≡ true → T (ternary (keyOf key))
 unfolding isKey keyOf
-key-ternary key e = key-bytes (drop 1 key) (true-holds e)
+key-ternary key e = all-map keyCoefficient isKeyByte (λ (z : ℤ). leb (natAbs z) 1) key-byte (drop 1 key) (true-holds e)
 
 pub key-size : (p : Params) (key : List ℕ) → length key ≡ secretKeySize p → length (keyOf key) ≡ p .n
 unfolding keyOf

@@ -3,8 +3,6 @@ ghost use mathlib.Core.Path.{_≡_};
 ghost use mathlib.Core.Bool.{true};
 ghost use mathlib.Core.List.{map};
 ghost use Prim.Native.Nat.{_+_, _*_, _≤_};
-ghost use lib.Dec.{leb};
-ghost use lib.IntN.{natAbs};
 ghost use lib.ListN.{length, take, drop};
 ghost use Rattle.algebra.specs.All.{all};
 ghost use Rattle.parameters.specs.Sound.{Fitting};
@@ -23,6 +21,7 @@ use encoding::secret_key::read_key;
 use encoding::secret_key::write_key;
 use encoding::signed_numbers::write_signed_words16;
 use parameters::Params;
+use polynomial::point::is_within;
 
 // The set byte and the key's bytes.
 pub fn put_secret_key(set: u8, f: &[i8], out: &mut [u8])
@@ -91,13 +90,6 @@ pub fn coefficients_of(key: &[u8], n: usize) -> [i16; 1153]
     f
 }
 
-// Whether a coefficient is -1, 0 or 1.
-fn is_small(a: i8) -> bool
-    ensures { λ r. ⌜ r ≡ leb (natAbs a) 1 ⌝ }
-{
-    if a < 0 { -2 < a } else { a <= 1 }
-}
-
 // Whether each coefficient is -1, 0 or 1.
 pub fn is_ternary(f: &[i8]) -> bool
     ensures { λ r. ⌜ r ≡ ternary (now (f .entry)) ⌝ }
@@ -105,7 +97,7 @@ pub fn is_ternary(f: &[i8]) -> bool
     let mut ok = true;
     let mut i: usize = 0;
     while i < f.len() {
-        ok = ok & is_small(f[i]);
+        ok = ok & is_within(f[i] as i32, 1);
         i += 1;
     }
     ok

@@ -17,9 +17,6 @@ pub struct Params {
     pub t: usize,
 }
 
-// The largest N of a set.
-pub const MAX_N: usize = 1153;
-
 const SETS: [Params; 5] = [
     Params {
         n: 5,
@@ -77,7 +74,7 @@ fn at_front(table: &[u32]) -> [u32; 1153]
     requires { ⌜ length (now table) ≤ 1153 ⌝ }
     ensures { λ r. ⌜ take (length (now (table .entry))) r ≡ now (table .entry) ⌝ }
 {
-    let mut out = [0u32; MAX_N];
+    let mut out = [0u32; 1153];
     let mut i = 0;
     while i < table.len() {
         out[i] = table[i];

@@ -1,44 +1,32 @@
 -- Public keys and signatures as their bytes say them: those that are written are read back and allowed.
 -- Assumes nothing.
 use mathlib.Core.Path.{_≡_, refl, sym, ap, ap₂, _∙_}
-use mathlib.Core.Bool.{Bool, true}
+use mathlib.Core.Bool.{true}
 use mathlib.Core.List.{List, [], _∷_}
 use Prim.Native.Nat.{ℕ, zero, suc, _-_, _≤_}
 use native.Mathlib.Omega.{arith}
-use lib.Dec.{T, ltb, leb, lt→ltb, ltb→lt, leb→le}
+use lib.Dec.{T, ltb, leb, lt→ltb, leb→le}
 use lib.IntN.{ℤ, pos, negsuc, natAbs}
-use lib.ListN.{length, getD, length-map}
+use lib.ListN.{length}
 use lib.Signed.{mag}
-use Rattle.algebra.specs.All.{all}
-use Rattle.algebra.proofs.All.{all-from}
-use Rattle.algebra.proofs.Test.{and-left, and-right, and-intro, holds-true, true-holds}
+use Rattle.algebra.proofs.All.{all-weaker}
+use Rattle.algebra.proofs.Test.{and-left, and-right, holds-true}
 use Rattle.algebra.specs.Integer.{within}
 use Rattle.parameters.specs.declared.Params.{Params}
 use Rattle.parameters.specs.Sound.{Sound, Fitting}
 use Rattle.polynomial.specs.Polynomial.{ternary, weight}
-use Rattle.polynomial.specs.Evaluation.{evaluation, evaluations}
-use Rattle.polynomial.proofs.EvaluationLaws.{evaluation-below}
+use Rattle.polynomial.specs.Evaluation.{evaluations}
+use Rattle.polynomial.proofs.EvaluationLaws.{length-evaluations, evaluations-below}
 use Rattle.encoding.specs.Challenge.{entriesFrom, entriesOf, areEntries, challengeOf}
-use Rattle.encoding.specs.Encoding.{publicKeySize, publicKey, PublicKeyRange, arePoints, areEvaluations, pointsOf, evaluationsOf, signatureSize, SignatureRange, entriesRead, pointRead}
+use Rattle.encoding.specs.Encoding.{publicKeySize, publicKey, arePoints, areEvaluations, pointsOf, evaluationsOf, signatureSize, SignatureRange, entriesRead, pointRead}
 use Rattle.encoding.proofs.Sign.{mag-le}
-use Rattle.encoding.proofs.Testing.{increasing-below}
+use Rattle.encoding.proofs.Range.{public-key-range}
 use Rattle.encoding.proofs.OneEncoding.{points-read-back, evaluations-read-back, public-key-length, entries-read-back, point-read-back, signature-length, entries-accepted, entries-below, challenge-read-back}
 use Rattle.scheme.specs.Scheme.{Signature}
 use Rattle.signer.specs.Signer.{signatureOf}
 use Rattle.entry_check.specs.Check.{signatureRead}
 
--- a weaker test of each element
-all-weaker : {A : Type 0} (f g : A → Bool) → ((x : A) → T (f x) → T (g x)) → (xs : List A) → T (all f xs) → T (all g xs)
-all-weaker f g h [] t = tt
-all-weaker f g h (x ∷ xs) t = and-intro (g x) (all g xs) (h x (and-left (f x) (all f xs) t)) (all-weaker f g h xs (and-right (f x) (all f xs) t))
-
 -- ---- public keys
-
-evaluations-below-q : {p : Params} → Sound p → (f : List ℤ) (points : List ℕ) → T (areEvaluations p (evaluations p f points))
-unfolding evaluations
-evaluations-below-q sound f [] = tt
-evaluations-below-q {p} sound f (j ∷ js) =
-    and-intro (ltb (evaluation p f j) (p .q)) (areEvaluations p (evaluations p f js)) (lt→ltb (evaluation p f j) (p .q) (evaluation-below sound f j)) (evaluations-below-q sound f js)
 
 -- the bytes are a public key of its size, and points and evaluations are read back from it
 pub record PublicKeyRead (p : Params) (key points vs : List ℕ) : Type 0 where
@@ -49,24 +37,15 @@ pub record PublicKeyRead (p : Params) (key points vs : List ℕ) : Type 0 where
 
 pub public-key-read : {p : Params} → Sound p → Fitting p → (set : ℕ) (f : List ℤ) (points : List ℕ) → length points ≡ p .t → arePoints p points ≡ true
     → PublicKeyRead p (publicKey set points (evaluations p f points)) points (evaluations p f points)
-unfolding evaluations
 public-key-read {p} sound fitting set f points size rise =
     let vs = evaluations p f points in
-    let below = evaluations-below-q sound f points in
-    let r : PublicKeyRange p points vs = record {
-      points-length = size;
-      points-below =
-          all-from (λ (j : ℕ). ltb j 65536) points 0
-          (λ i h. lt→ltb (getD points i 0) 65536 (omega (arith, increasing-below (p .n) 1 points (true-holds rise) i h, fitting .size)));
-      evaluations-length = length-map points (evaluation p f) ∙ size;
-      evaluations-below =
-          all-weaker (λ (v : ℕ). ltb v (p .q)) (λ (v : ℕ). ltb v 16777216) (λ v t. lt→ltb v 16777216 (omega (arith, ltb→lt v (p .q) t, fitting .modulus))) vs below;
-    } in
+    let below : areEvaluations p vs ≡ true = holds-true (areEvaluations p vs) (evaluations-below sound f points) in
+    let r = public-key-range fitting points vs size rise (length-evaluations p f points ∙ size) below in
     record {
       size = public-key-length p set points vs r;
       points-back = points-read-back p set points vs r;
       evaluations-back = evaluations-read-back p set points vs r;
-      evaluations-allowed = holds-true (areEvaluations p vs) below;
+      evaluations-allowed = below;
     }
 
 -- ---- signatures

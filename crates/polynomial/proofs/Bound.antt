@@ -9,7 +9,7 @@ use native.Mathlib.Omega.{arith}
 use lib.Dec.{T, leb, leb→le, le→leb}
 use lib.IntN.{ℤ, pos, _+ℤ_, _*ℤ_, negℤ, natAbs}
 use lib.ListN.{length, take, drop}
-use Rattle.algebra.proofs.All.{all-more}
+use Rattle.algebra.proofs.All.{all-more, all-drop, all-weaker}
 use Rattle.algebra.proofs.Test.{and-left, and-right, and-intro}
 use Rattle.algebra.proofs.Absolute.{abs-add, abs-neg, abs-mul}
 use Rattle.algebra.specs.Integer.{within}
@@ -37,9 +37,7 @@ within-take k (suc i) [] t = tt
 within-take k (suc i) (a ∷ f) t = within-cons k a (take i f) (within-head k a f t) (within-take k i f (within-tail k a f t))
 
 pub within-drop : (k i : ℕ) (f : List ℤ) → T (within k f) → T (within k (drop i f))
-within-drop k zero f t = t
-within-drop k (suc i) [] t = tt
-within-drop k (suc i) (a ∷ f) t = within-drop k i f (within-tail k a f t)
+within-drop k i f t = all-drop (λ (a : ℤ). leb (natAbs a) k) i f t
 
 -- one coefficient more
 pub within-next : (k : ℕ) (f : List ℤ) (i : ℕ) → i < length f → T (within k (take i f)) → natAbs (coefficient f i) ≤ k → T (within k (take (i + 1) f))
@@ -49,8 +47,8 @@ within-next k f i l t h =
 
 -- ---- the laws
 pub within-mono : {k l : ℕ} → k ≤ l → (f : List ℤ) → T (within k f) → T (within l f)
-within-mono h [] t = tt
-within-mono {k} {l} h (a ∷ f) t = within-cons l a f (le-trans (within-head k a f t) h) (within-mono h f (within-tail k a f t))
+within-mono {k} {l} h f t =
+    all-weaker (λ (a : ℤ). leb (natAbs a) k) (λ (a : ℤ). leb (natAbs a) l) (λ a s. le→leb (natAbs a) l (le-trans (leb→le (natAbs a) k s) h)) f t
 
 pub within-add : (k l : ℕ) (f h : List ℤ) → T (within k f) → T (within l h) → T (within (k + l) (add f h))
 within-add k l [] h s t = within-mono (omega arith) h t

@@ -8,16 +8,23 @@ use native.Mathlib.Nat.{zero-mul, suc-mul, mul-comm, pow-zero, add-zero, mod-eq-
 use native.Mathlib.Omega.{arith}
 use lib.Pow.{pow-add}
 use lib.IntN.{ℤ, pos, _+ℤ_, _-ℤ_, _*ℤ_, negℤ, *ℤ-zero}
-use lib.ListN.{length}
+use lib.Dec.{T, ltb, lt→ltb}
+use lib.ListN.{length, length-map}
+use Rattle.algebra.specs.All.{all}
 use Rattle.algebra.specs.Integer.{residue, sum}
+use Rattle.algebra.proofs.Test.{and-intro}
 use Rattle.algebra.proofs.Ring.{ring, *ℤ-idl}
 use Rattle.algebra.proofs.Sum.{sum-same, sum-front}
 use Rattle.algebra.proofs.Congruence.{Cong, cong-refl, cong-eq, cong-sym, cong-trans, cong-add, cong-mul, cong-neg, cong-residue, residue-below, residue-eq, eq-residue}
 use Rattle.parameters.specs.declared.Params.{Params}
 use Rattle.parameters.specs.Sound.{Sound}
 use Rattle.polynomial.specs.Polynomial.{coefficient, add, neg, sub, star, point}
-use Rattle.polynomial.specs.Evaluation.{term, evaluation}
+use Rattle.polynomial.specs.Evaluation.{term, evaluation, evaluations}
 use Rattle.polynomial.proofs.Horner.{at, power, at-add, at-neg, at-star}
+
+pub length-evaluations : (p : Params) (f : List ℤ) (js : List ℕ) → length (evaluations p f js) ≡ length js
+unfolding evaluations
+length-evaluations p f js = length-map js (evaluation p f)
 
 -- ---- the sum of the definition is Horner's value at g to the j
 power-next : (g j i : ℕ) → g ^ (suc i * j) ≡ g ^ (i * j) * g ^ j
@@ -74,6 +81,12 @@ module _ {p : Params} (sound : Sound p) where
   pub evaluation-below : (f : List ℤ) (j : ℕ) → evaluation p f j < p .q
   unfolding evaluation
   evaluation-below f j = residue-below positive (sum (term p f j) (length f))
+
+  pub evaluations-below : (f : List ℤ) (js : List ℕ) → T (all (λ (v : ℕ). ltb v (p .q)) (evaluations p f js))
+  unfolding evaluations
+  evaluations-below f [] = tt
+  evaluations-below f (j ∷ js) =
+      and-intro (ltb (evaluation p f j) (p .q)) (all (λ (v : ℕ). ltb v (p .q)) (evaluations p f js)) (lt→ltb (evaluation p f j) (p .q) (evaluation-below f j)) (evaluations-below f js)
 
   -- the evaluation is the value at g to the j, modulo q
   pub evaluation-cong : (f : List ℤ) (j : ℕ) → Cong (p .q) (pos (evaluation p f j)) (at (pos (p .g ^ j)) f)

@@ -7,24 +7,24 @@ use mathlib.Core.Option.{Option, none, some}
 use Prim.Native.Nat.{ℕ, zero, suc, _*_, _%_, _+_, _<_, _≤_}
 use native.Mathlib.Nat.{mul-mod-left, suc-mul, zero-mul, mul-le-mul-right}
 use native.Mathlib.Omega.{arith}
-use lib.Dec.{T, ltb, leb, eqb, lt→ltb, ltb→lt, eqb→eq}
+use lib.Dec.{T, leb, eqb, eqb→eq}
 use lib.IntN.{ℤ, natAbs}
-use lib.ListN.{length, getD, drop, take, length-append, length-replicate}
+use lib.ListN.{length, getD, drop, take, length-replicate}
 use lib.Seq.{take-at, drop-drop, drop-at}
 use borrow.Author.Tests.{eq-eqb, ne-eqb, le-leb, lt-ltb, le-ltb}
 use Rattle.algebra.specs.Choice.{pick}
 use Rattle.algebra.specs.All.{all}
-use Rattle.algebra.proofs.All.{all-append, all-from, all-at}
+use Rattle.algebra.proofs.All.{all-append, all-at}
+use Rattle.algebra.proofs.List.{flatten-length}
 use Rattle.algebra.proofs.Test.{and-left, and-right, and-intro, holds-true, true-holds}
 use Rattle.algebra.specs.Integer.{within}
 use Rattle.parameters.specs.declared.Params.{Params}
 use Rattle.parameters.specs.Sets.{setOf}
-use Rattle.parameters.specs.Sound.{Fitting}
 use Rattle.parameters.proofs.Sound.{set-fitting}
 use Rattle.challenge.specs.Draw.{drawChallenge}
 use Rattle.encoding.specs.Challenge.{areEntries}
 use Rattle.encoding.specs.Encoding.{isKey, keyOf, publicKeySize, publicKey, PublicKeyRange, signatureSize, entriesRead}
-use Rattle.encoding.proofs.Testing.{increasing-below}
+use Rattle.encoding.proofs.Range.{public-key-range}
 use Rattle.encoding.proofs.OneEncoding.{public-key-length, points-read-back, evaluations-read-back}
 use Rattle.scheme.specs.Scheme.{Signed}
 use Rattle.signer.specs.Signer.{signedBy}
@@ -50,12 +50,10 @@ module _ (p : Params) where
         (and-right (eqb (length y) (p .n)) (within (p .k) y) m, and-right (isMask p y) (all (isMask p) ys) t),
       )
 
-  flatten-length : (ys : List (List ℤ)) → T (all (isMask p) ys) → length (flatten ys) ≡ length ys * p .n
-  unfolding flatten
-  flatten-length [] t = sym (zero-mul (p .n))
-  flatten-length (y ∷ ys) t =
-      let (size, (small, rest)) = first-mask y ys t in
-      length-append y (flatten ys) ∙ omega (arith, size, flatten-length ys rest, suc-mul (length ys) (p .n))
+  mask-size : (ys : List (List ℤ)) → T (all (isMask p) ys) → (k : ℕ) → k < length ys → length (getD ys k []) ≡ p .n
+  mask-size ys t k h =
+      let y = getD ys k [] in
+      eqb→eq (length y) (p .n) (and-left (eqb (length y) (p .n)) (within (p .k) y) (all-at (isMask p) ys [] t k h))
 
   flatten-within : (ys : List (List ℤ)) → T (all (isMask p) ys) → T (within (p .k) (flatten ys))
   unfolding flatten
@@ -65,20 +63,20 @@ module _ (p : Params) where
       rw (all-append (λ (a : ℤ). leb (natAbs a) (p .k)) y (flatten ys)) (and-intro (within (p .k) y) (within (p .k) (flatten ys)) small (flatten-within ys rest))
 
   -- mask number i
-  pub flatten-at : (ys : List (List ℤ)) (i : ℕ) → T (all (isMask p) ys) → i < length ys → maskAt p (flatten ys) i ≡ getD ys i []
+  pub mask-of-flattened : (ys : List (List ℤ)) (i : ℕ) → T (all (isMask p) ys) → i < length ys → maskAt p (flatten ys) i ≡ getD ys i []
   unfolding flatten
-  flatten-at [] i t h = absurd (omega arith)
-  flatten-at (y ∷ ys) zero t h = rw (zero-mul (p .n)) (take-at y (flatten ys) (p .n) (first-mask y ys t .0))
-  flatten-at (y ∷ ys) (suc i) t h =
+  mask-of-flattened [] i t h = absurd (omega arith)
+  mask-of-flattened (y ∷ ys) zero t h = rw (zero-mul (p .n)) (take-at y (flatten ys) (p .n) (first-mask y ys t .0))
+  mask-of-flattened (y ∷ ys) (suc i) t h =
       let (size, (small, rest)) = first-mask y ys t in
       let e : suc i * p .n ≡ p .n + i * p .n = omega (arith, suc-mul i (p .n)) in
       ap (λ (k : ℕ). take (p .n) (drop k (y ++ flatten ys))) e
       ∙ ap (take (p .n)) (sym (drop-drop (i * p .n) (p .n) (y ++ flatten ys)) ∙ ap (drop (i * p .n)) (drop-at y (flatten ys) (p .n) size))
-      ∙ flatten-at ys i rest (omega arith)
+      ∙ mask-of-flattened ys i rest (omega arith)
 
   masks-flattened : (ys : List (List ℤ)) → T (all (isMask p) ys) → length ys ≤ 8 → areMasks p (flatten ys) ≡ true
   masks-flattened ys t few =
-      let l = flatten-length ys t in
+      let l = flatten-length (p .n) ys (mask-size ys t) in
       holds-true (areMasks p (flatten ys))
       (and-intro (eqb (length (flatten ys) % p .n) 0) (leb (length (flatten ys)) (8 * p .n))
       (true-holds (eq-eqb (length (flatten ys) % p .n) 0 (ap (λ (k : ℕ). k % p .n) l ∙ mul-mod-left (length ys) (p .n))))
@@ -120,21 +118,8 @@ module _ (s : ℕ) (known : s < 5) where
 
   module _ (points vs message op : List ℕ) (j : ArePoints p points) (v : AreEvaluations p vs) (m : length message ≡ 64)
       (size : length op ≡ 2 * p .b + 2 * p .n) where
-    fitting : Fitting p
-    fitting = set-fitting s known
-
     range : PublicKeyRange p points vs
-    range = record {
-      points-length = j .size;
-      points-below =
-          all-from (λ (x : ℕ). ltb x 65536) points 0
-          (λ i h. lt→ltb (getD points i 0) 65536 (omega (arith, increasing-below (p .n) 1 points (true-holds (j .rise)) i h, fitting .size)));
-      evaluations-length = v .size;
-      evaluations-below =
-          all-from (λ (x : ℕ). ltb x 16777216) vs 0
-          (λ i h. lt→ltb (getD vs i 0) 16777216
-          (omega (arith, ltb→lt (getD vs i 0) (p .q) (all-at (λ (x : ℕ). ltb x (p .q)) vs 0 (true-holds (v .below)) i h), fitting .modulus)));
-    }
+    range = public-key-range (set-fitting s known) points vs (j .size) (j .rise) (v .size) (v .below)
 
     refusal : checkRefusalIn p (publicKey s points vs) (s ∷ op) ≡ pick (not (areEntries (p .n) (entriesRead p (s ∷ op)))) 12 0
     unfolding checkRefusalIn

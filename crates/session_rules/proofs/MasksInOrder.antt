@@ -9,7 +9,7 @@ use Rattle.entry_sign.specs.Sign.{maskAt}
 use Rattle.session_rules.specs.Play.{opened}
 use Rattle.session_rules.specs.Plays.{events, Material, noMaterial, paramsIn, callWith}
 use Rattle.session_rules.specs.HeldIsRead.{materialAfter, noneAvailable}
-use Rattle.session_rules.proofs.Library.{flatten-at}
+use Rattle.session_rules.proofs.Library.{mask-of-flattened}
 use Rattle.session_rules.proofs.Reaching.{reached-opened, reached-after}
 
 module _ (file : List ℕ) (buffers : List (List ℕ)) where
@@ -20,4 +20,4 @@ module _ (file : List ℕ) (buffers : List (List ℕ)) where
   unfolding events
   masks-in-order i h =
       let r = reached-after noMaterial noneAvailable opened reached-opened file buffers in
-      flatten-at (paramsIn material) (material .masks) i (rw (r .reads .masks) at (r .fits .masks)) h
+      mask-of-flattened (paramsIn material) (material .masks) i (rw (r .reads .masks) at (r .fits .masks)) h

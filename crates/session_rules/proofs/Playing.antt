@@ -5,7 +5,7 @@ use mathlib.Core.Path.{_≡_, refl, sym, ap, _∙_}
 use mathlib.Core.Bool.{Bool, true, false, not, _&&_, true≢false}
 use mathlib.Core.List.{List, [], _∷_, _++_, map, flatten}
 use mathlib.Core.Option.{Option, none, some}
-use Prim.Native.Nat.{ℕ, zero, suc, _+_, _*_, _≤_, _<_}
+use Prim.Native.Nat.{ℕ, suc, _+_, _*_, _≤_, _<_}
 use native.Mathlib.Omega.{arith}
 use lib.Dec.{T, leb, eqb}
 use lib.IntN.{ℤ}
@@ -13,17 +13,17 @@ use lib.ListN.{length, getD, drop, length-append, length-map, length-drop}
 use borrow.Author.Tests.{ltb-true, leb-false, le-leb, eqb-true, eqb-false, eq-eqb, ne-eqb, not-false}
 use Rattle.algebra.specs.Choice.{pick}
 use Rattle.algebra.specs.All.{all}
-use Rattle.algebra.proofs.All.{all-append}
-use Rattle.algebra.proofs.Test.{and-intro, true-holds, pick-by}
+use Rattle.algebra.proofs.All.{all-append, all-drop}
+use Rattle.algebra.proofs.Test.{and-intro, holds-true, true-holds, pick-by}
 use Rattle.algebra.specs.Integer.{within}
 use Rattle.parameters.specs.declared.Params.{Params}
 use Rattle.parameters.specs.Sets.{isSet}
 use Rattle.parameters.specs.Sound.{Fitting}
 use Rattle.parameters.proofs.Sound.{set-sound, set-fitting}
-use Rattle.polynomial.specs.Evaluation.{evaluation, evaluations}
+use Rattle.polynomial.proofs.EvaluationLaws.{length-evaluations, evaluations-below}
 use Rattle.encoding.specs.Bytes.{numbers, signed16}
 use Rattle.encoding.specs.Encoding.{isKeyByte, keyCoefficient, arePoints, areEvaluations, publicKey}
-use Rattle.encoding.proofs.Inverse.{all-drop}
+use Rattle.encoding.proofs.Parts.{length-numbers}
 use Rattle.answers.specs.declared.Signing.{Signing}
 use Rattle.answers.specs.declared.Signing.the-variants as signing
 use Rattle.answers.specs.declared.Verdict.{Verdict}
@@ -31,7 +31,6 @@ use Rattle.answers.specs.declared.Verdict.the-variants as verdict
 use Rattle.entry_sign.specs.Sign.{signAnswer, signWritten}
 use Rattle.entry_check.specs.Check.{checkAnswer}
 use Rattle.passign.specs.Hiding.{entries}
-use Rattle.passign.proofs.Encoded.{public-key-read}
 use Rattle.session_rules.specs.Held.{Chosen, Held, withMasks}
 use Rattle.session_rules.specs.Commands.{Payload, nothing, signed, Done, accepted, refused, needing, chooseSet, keyEvaluations, maskOf, signatureRoom, loadPoints, loadKey, loadMask, loadMessage, afterSigning, sign, afterCheck, check, loadEvaluations, needsSet, operandSizeIn, operandSize, commandIn, command}
 use Rattle.session_rules.specs.Rows.{decimal, hex, spaced, payloadText}
@@ -39,10 +38,10 @@ use Rattle.session_rules.specs.Play.{lacksSet}
 use Rattle.session_rules.specs.Plays.{Event, Material, passedOver, paramsIn, withMasksIn, callWith, firstPassing, withAccepted, withCommand}
 use Rattle.session_rules.specs.HeldIsRead.{Available, availableWithAccepted, availableWith, chosenIn, Holding, absent, holds, HeldIsRead}
 use Rattle.session_rules.specs.Refusals.{isEnding}
-use Rattle.session_rules.proofs.Fits.{isMask, ArePoints, Fits}
+use Rattle.session_rules.proofs.Fits.{isMask, Fits}
 use Rattle.session_rules.proofs.Library.{sign-refused, check-refused}
 use Rattle.session_rules.proofs.Signature.{signature-size}
-use Rattle.session_rules.proofs.Text.{length-decimal, length-hex, length-numbers}
+use Rattle.session_rules.proofs.Text.{length-decimal, length-hex, length-spaced-numbers}
 
 -- a command that was played; what is told does not look at its buffer
 abbrev pub played : ℕ → List ℕ → ℕ → Event
@@ -79,15 +78,6 @@ needing-by : {A : Type 0} (P : Done → Type 0) {Q R : A → Type 0} {given : Bo
     → Holding Q given o → Holding R given o → P (refused 10 h) → ((a : A) → Q a → R a → P (go a)) → P (needing o h go)
 needing-by P absent absent f g = f
 needing-by P (holds {a = a} q) (holds r) f g = g a q r
-
-length-numbers-read : (w count : ℕ) (xs : List ℕ) → length (numbers w count xs) ≡ count
-unfolding numbers
-length-numbers-read w zero xs = refl
-length-numbers-read w (suc count) xs = ap suc (length-numbers-read w count (drop w xs))
-
-length-evaluations : (p : Params) (points key : List ℕ) → length (keyEvaluations p points key) ≡ length points
-unfolding evaluations
-length-evaluations p points key = length-map points (evaluation p (map keyCoefficient key))
 
 -- ---- what is held and read with other masks
 
@@ -174,7 +164,7 @@ module _ (t : Material) (av : Available) (h : Held) (reads : HeldIsRead t av h) 
         (record { set = reads .set; points = holds refl; key = absent; evaluations = absent; message = reads .message; masks = reads .masks })
         (record {
           set = fits .set;
-          points = holds (record { size = length-numbers-read 2 (p .t) op; rise = not-false (arePoints p (numbers 2 (p .t) op)) e });
+          points = holds (record { size = length-numbers 2 (p .t) op; rise = not-false (arePoints p (numbers 2 (p .t) op)) e });
           key = absent;
           evaluations = absent;
           message = fits .message;
@@ -183,8 +173,8 @@ module _ (t : Material) (av : Available) (h : Held) (reads : HeldIsRead t av h) 
         }))
 
     -- the evaluations of a key are below q
-    allowed : (points : List ℕ) → ArePoints p points → areEvaluations p (keyEvaluations p points op) ≡ true
-    allowed points j = public-key-read (set-sound (t .set) known) fitting (t .set) (map keyCoefficient op) points (j .size) (j .rise) .evaluations-allowed
+    allowed : (points : List ℕ) → T (areEvaluations p (keyEvaluations p points op))
+    allowed points = evaluations-below (set-sound (t .set) known) (map keyCoefficient op) points
 
     does-key : length op ≡ p .n → Does t av h 3 op (loadKey c h op)
     unfolding loadKey withCommand withAccepted availableWith availableWithAccepted
@@ -192,7 +182,7 @@ module _ (t : Material) (av : Available) (h : Held) (reads : HeldIsRead t av h) 
         needing-by (Does t av h 3 op) (reads .points) (fits .points) (lacking 3)
         (λ points q j. pick-by (Does t av h 3 op) (not (all isKeyByte op)) (λ e. left 3 5 refl refl refl)
         (λ e. taken 3 (λ s. omega arith)
-        (omega (arith, length-numbers (p .q) (keyEvaluations p points op) (omega (arith, fitting .modulus)) (true-holds (allowed points j)), length-evaluations p points op, j .size, fitting .points, fitting .size))
+        (omega (arith, length-spaced-numbers (p .q) (keyEvaluations p points op) (omega (arith, fitting .modulus)) (allowed points), length-evaluations p (map keyCoefficient op) points, j .size, fitting .points, fitting .size))
         (record {
           set = reads .set;
           points = reads .points;
@@ -206,8 +196,8 @@ module _ (t : Material) (av : Available) (h : Held) (reads : HeldIsRead t av h) 
           points = fits .points;
           key = holds (record { size = size; bytes = not-false (all isKeyByte op) e });
           evaluations = holds (record {
-            size = length-evaluations p points op ∙ j .size;
-            below = allowed points j;
+            size = length-evaluations p (map keyCoefficient op) points ∙ j .size;
+            below = holds-true (areEvaluations p (keyEvaluations p points op)) (allowed points);
           });
           message = fits .message;
           masks = fits .masks;
@@ -217,7 +207,7 @@ module _ (t : Material) (av : Available) (h : Held) (reads : HeldIsRead t av h) 
     -- a mask read and within k is one
     mask-read : within (p .k) (maskOf p op) ≡ true → T (isMask p (maskOf p op))
     mask-read e =
-        let size = length-map (numbers 2 (p .n) op) signed16 ∙ length-numbers-read 2 (p .n) op in
+        let size = length-map (numbers 2 (p .n) op) signed16 ∙ length-numbers 2 (p .n) op in
         and-intro (eqb (length (maskOf p op)) (p .n)) (within (p .k) (maskOf p op)) (true-holds (eq-eqb (length (maskOf p op)) (p .n) size)) (true-holds e)
 
     does-mask : Does t av h 4 op (loadMask c h op)
@@ -324,7 +314,7 @@ module _ (t : Material) (av : Available) (h : Held) (reads : HeldIsRead t av h) 
           set = fits .set;
           points = fits .points;
           key = absent;
-          evaluations = holds (record { size = length-numbers-read 3 (p .t) op; below = not-false (areEvaluations p (numbers 3 (p .t) op)) e });
+          evaluations = holds (record { size = length-numbers 3 (p .t) op; below = not-false (areEvaluations p (numbers 3 (p .t) op)) e });
           message = fits .message;
           masks = fits .masks;
           few = fits .few;

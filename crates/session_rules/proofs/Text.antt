@@ -45,13 +45,13 @@ length-hex [] = refl
 length-hex (x ∷ xs) = omega (arith, length-hex xs)
 
 -- numbers of at most ten digits
-pub length-numbers : (q : ℕ) (vs : List ℕ) → q ≤ 10 ^ 10 → T (areBelow q vs) → length (spacedNumbers vs) ≤ 11 * length vs
+pub length-spaced-numbers : (q : ℕ) (vs : List ℕ) → q ≤ 10 ^ 10 → T (areBelow q vs) → length (spacedNumbers vs) ≤ 11 * length vs
 unfolding spacedNumbers
-length-numbers q [] h t = omega arith
-length-numbers q (v ∷ vs) h t =
+length-spaced-numbers q [] h t = omega arith
+length-spaced-numbers q (v ∷ vs) h t =
     let few : v < 10 ^ 10 = omega (arith, ltb→lt v q (and-left (ltb v q) (areBelow q vs) t)) in
     let ten : length (decimal v) ≤ 10 = rw (digits-enough 9 19 v (omega arith) few) (length-digits 9 v) in
-    omega (arith, length-append (spaced (decimal v)) (spacedNumbers vs), ten, length-numbers q vs h (and-right (ltb v q) (areBelow q vs) t))
+    omega (arith, length-append (spaced (decimal v)) (spacedNumbers vs), ten, length-spaced-numbers q vs h (and-right (ltb v q) (areBelow q vs) t))
 
 -- ---- fields are parted by a space
 

@@ -55,7 +55,7 @@ pub struct Done {
     pub held: Held,
 }
 
-pub fn no_points() -> Points
+fn no_points() -> Points
     ensures { λ r. ⌜ r .held ≡ false ⌝ }
 {
     Points {
@@ -91,7 +91,7 @@ pub fn no_masks() -> Masks
     }
 }
 
-pub fn no_message() -> Message
+fn no_message() -> Message
     ensures { λ r. ⌜ r .held ≡ false ⌝ }
 {
     Message {

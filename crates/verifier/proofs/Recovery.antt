@@ -6,14 +6,16 @@ use Prim.Native.Nat.{ℕ, zero, suc, _+_, _-_, _*_, _%_, _<_}
 use native.Mathlib.Nat.{mod-lt, le-of-suc-le-suc, not-suc-le-zero}
 use native.Mathlib.Omega.{arith}
 use lib.IntN.{ℤ, pos, _+ℤ_, _-ℤ_}
-use lib.ListN.{length, getD, take, set, length-map}
+use lib.ListN.{length, getD, take, set}
 use lib.Seq.{take-all}
-use Rattle.algebra.specs.Integer.{residue, sum}
-use Rattle.algebra.proofs.Congruence.{cong-refl, cong-sym, cong-trans, cong-add, cong-neg, cong-residue, residue-below, residue-eq}
+use Rattle.algebra.specs.Integer.{residue}
+use Rattle.algebra.proofs.Congruence.{cong-refl, cong-sym, cong-trans, cong-add, cong-neg, cong-residue, residue-eq}
+use Rattle.algebra.proofs.All.{below-at}
 use Rattle.algebra.proofs.List.{copy-more}
 use Rattle.algebra.proofs.Ring.{ring, cancel-right}
 use Rattle.parameters.specs.declared.Params.{Params}
-use Rattle.polynomial.specs.Evaluation.{term, evaluation, evaluations, Below, Evaluable}
+use Rattle.polynomial.specs.Evaluation.{evaluations, Evaluable}
+use Rattle.polynomial.proofs.EvaluationLaws.{length-evaluations, evaluations-below}
 use Rattle.scheme.specs.Scheme.{recovered}
 use Rattle.verifier.specs.Verifier.{Checkable, Recoverable, differences}
 
@@ -69,16 +71,6 @@ recovered-is p c z [] vs = refl
 recovered-is p c z (j ∷ js) [] = refl
 recovered-is p c z (j ∷ js) (v ∷ vs) = ap₂ _∷_ refl (recovered-is p c z js vs)
 
-evaluations-below : (p : Params) → 0 < p .q → (f : List ℤ) (js : List ℕ) → Below (p .q) (evaluations p f js)
-unfolding evaluations evaluation
-evaluations-below p positive f [] i h = absurd (not-suc-le-zero h)
-evaluations-below p positive f (j ∷ js) zero h = residue-below positive (sum (term p f j) (length f))
-evaluations-below p positive f (j ∷ js) (suc i) h = evaluations-below p positive f js i (le-of-suc-le-suc h)
-
-pub length-evaluations : (p : Params) (f : List ℤ) (js : List ℕ) → length (evaluations p f js) ≡ length js
-unfolding evaluations
-length-evaluations p f js = length-map js (evaluation p f)
-
 -- the arrays of the code have what they are named for in front
 module _ {p : Params} {powers points vs : List ℕ} {c z : List ℤ} (asked : Checkable p powers points vs c z) where
   pub evaluable : (f : List ℤ) → length f ≡ p .n → Evaluable p powers f
@@ -88,15 +80,14 @@ module _ {p : Params} {powers points vs : List ℕ} {c z : List ℤ} (asked : Ch
   recoverable =
       let of-challenge = length-evaluations p c points in
       let of-point = length-evaluations p z points in
-      let positive : 0 < p .q = omega (arith, asked .sound .modulus) in
       record {
         modulus = asked .fitting .modulus;
         size = omega (arith, asked .fitting .size, asked .fitting .points, asked .points-size);
         evaluations-size = asked .evaluations-size ∙ sym (of-point ∙ asked .points-size);
         challenge-size = of-challenge ∙ sym of-point;
         evaluations-below = asked .evaluations-below;
-        challenge-below = evaluations-below p positive c points;
-        point-below = evaluations-below p positive z points;
+        challenge-below = below-at (p .q) (evaluations p c points) (evaluations-below (asked .sound) c points);
+        point-below = below-at (p .q) (evaluations p z points) (evaluations-below (asked .sound) z points);
       }
 
   module _ (wide : List ℤ) (front : take (length c) wide ≡ c) where

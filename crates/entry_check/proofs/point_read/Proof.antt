@@ -10,7 +10,7 @@ use lib.Seq.{length-take-le, take-at}
 use borrow.Author.Needs.{needs}
 use Rattle.encoding.specs.Bytes.{numbers, signed16}
 use Rattle.encoding.specs.Encoding.{pointRead}
-use Rattle.encoding.proofs.Parts.{rest}
+use Rattle.encoding.proofs.Parts.{take-rest}
 use Rattle.entry_check.proofs.point_read.Statement.{statement}
 use Rattle.entry_check.proofs.point_read.Tie as tie
 
@@ -42,7 +42,7 @@ read-signed-words-requires c κs =
     let s = c .before .before .before .before in
     let start = 1 + 2 * s .args .p .b in
     let e : length (drop start (s .args .signature .now)) ≡ 2 * s .args .p .n = omega (arith, length-drop start (s .args .signature .now), s .pre .1) in
-    ap length (rest (s .args .signature .now) start) ∙ e ∙ ap (λ (n : ℕ). 2 * n) (slice-aggregate-read-signed-words c)
+    ap length (take-rest (s .args .signature .now) start) ∙ e ∙ ap (λ (n : ℕ). 2 * n) (slice-aggregate-read-signed-words c)
 
 returns : tie.Need-returns
 unfolding pointRead
@@ -52,7 +52,7 @@ returns c =
     let w = c .before .read-signed-words in
     let size = sym (slice-aggregate-read-signed-words (c .before .before)) in
     take-at (w .last .1 .0) (drop n (replicate 1153 (pos 0))) n (w .kept .1 .0 ∙ size)
-    ∙ w .ensures ∙ ap₂ (λ (m : ℕ) (l : List ℕ). map signed16 (numbers 2 m l)) size (rest (s .signature .now) (1 + 2 * s .p .b))
+    ∙ w .ensures ∙ ap₂ (λ (m : ℕ) (l : List ℕ). map signed16 (numbers 2 m l)) size (take-rest (s .signature .now) (1 + 2 * s .p .b))
 
 pub point-read-spec : {M : Type 1} → statement M
 point-read-spec =

@@ -4,12 +4,10 @@ use mathlib.Core.Path.{_≡_, sym, subst, _∙_}
 use mathlib.Core.List.{List}
 use Prim.Native.Nat.{ℕ, _≤_}
 use native.Mathlib.Omega.{arith}
-use lib.Dec.{ltb, ltb→lt}
 use lib.IntN.{ℤ}
-use lib.ListN.{getD}
 use lib.Seq.{length-take-le}
 use borrow.Author.Needs.{needs}
-use Rattle.algebra.proofs.All.{all-at}
+use Rattle.algebra.proofs.All.{below-at}
 use Rattle.algebra.proofs.Test.{true-holds}
 use Rattle.parameters.specs.declared.Params.{Params}
 use Rattle.parameters.specs.Sound.{Fitting}
@@ -105,7 +103,7 @@ verdict-of-requires c κs =
       evaluations-size = sym (slice-aggregate-verdict-of-3 (c .before .before));
       evaluations-below =
           subst (λ (l : List ℕ). Below (p .q) l) (sym (evaluations .ensures))
-          (λ i h. ltb→lt (getD (evaluationsOf p key) i 0) (p .q) (all-at (λ (v : ℕ). ltb v (p .q)) (evaluationsOf p key) 0 (true-holds (allowed s .evaluations-below)) i h));
+          (below-at (p .q) (evaluationsOf p key) (true-holds (allowed s .evaluations-below)));
       challenge-size = sym (slice-aggregate-verdict-of-4 (c .before));
       point-size = sym (slice-aggregate-verdict-of-5 c);
     }

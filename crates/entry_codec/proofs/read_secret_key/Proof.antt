@@ -15,7 +15,7 @@ use Rattle.answers.specs.Answer.{setByte}
 use Rattle.entry_codec.specs.Codec.{readSecretKeyRefusal, readSecretKeyWritten}
 use Rattle.answers.proofs.Refusal.{step}
 use Rattle.answers.proofs.Answering.{refused, kept, passed-equal, in-set-of}
-use Rattle.encoding.proofs.Parts.{rest}
+use Rattle.encoding.proofs.Parts.{take-rest}
 use Rattle.entry_codec.proofs.read_secret_key.Statement.{statement}
 use Rattle.entry_codec.proofs.read_secret_key.Tie as tie
 
@@ -51,8 +51,8 @@ read-coefficients-requires c κs =
     let a = c .before .before .before .before .before .args in
     let k = allowed (a .bytes .now) (length (a .out .now)) (sym (c .before .before .before .read-secret-key-refusal .ensures) ∙ c .before .before .if1 .left) in
     let l = length-drop 1 (a .bytes .now) in
-    let r = ap length (rest (a .bytes .now) 1) in
-    (omega (arith, k .0), ap (all isKeyByte) (rest (a .bytes .now) 1) ∙ k .1)
+    let r = ap length (take-rest (a .bytes .now) 1) in
+    (omega (arith, k .0), ap (all isKeyByte) (take-rest (a .bytes .now) 1) ∙ k .1)
 
 same-length : tie.Need-same-length
 same-length c = search needs
@@ -61,7 +61,7 @@ returns-2 : tie.Need-returns-2
 unfolding readSecretKeyWritten keyOf
 returns-2 c =
     rw (← c .before .before .before .before .before .read-secret-key-refusal .ensures, c .before .before .before .before .if1 .left)
-    (refl, c .before .read-coefficients .ensures ∙ ap (map keyCoefficient) (rest (c .before .before .before .before .before .before .before .args .bytes .now) 1))
+    (refl, c .before .read-coefficients .ensures ∙ ap (map keyCoefficient) (take-rest (c .before .before .before .before .before .before .before .args .bytes .now) 1))
 
 pub read-secret-key-spec : {M : Type 1} → statement M
 read-secret-key-spec =

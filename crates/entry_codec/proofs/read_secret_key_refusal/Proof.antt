@@ -8,7 +8,7 @@ use borrow.Author.Needs.{needs}
 use borrow.Author.Tests.{lt-ltb, le-ltb, eq-eqb, ne-eqb}
 use Rattle.algebra.specs.All.{all}
 use Rattle.encoding.specs.Encoding.{isKeyByte, isKey}
-use Rattle.encoding.proofs.Parts.{rest}
+use Rattle.encoding.proofs.Parts.{take-rest}
 use Rattle.entry_codec.specs.Codec.{readSecretKeyRefusal}
 use Rattle.parameters.proofs.Lookup.{lookup-fitting}
 use Rattle.entry_codec.proofs.read_secret_key_refusal.Statement.{statement}
@@ -61,13 +61,13 @@ returns-5 : tie.Need-returns-5
 unfolding readSecretKeyRefusal isKey
 returns-5 c =
     let known : getD (c .before .before .before .before .before .before .before .before .before .before .args .bytes .now) 0 0 < 5 = omega arith in
-    rw (ne-eqb _ 0 (c .before .before .before .before .before .before .before .before .if1 .left), lt-ltb _ 5 known, ← c .before .before .before .before .before .params-of .ensures, eq-eqb _ _ (c .before .before .before .before .if3 .left), eq-eqb _ _ (c .before .before .before .if4 .left), ap (all isKeyByte) (sym (rest (c .before .before .before .before .before .before .before .before .before .before .args .bytes .now) 1)) ∙ sym (c .before .are-key-bytes .ensures) ∙ c .if5 .taken)
+    rw (ne-eqb _ 0 (c .before .before .before .before .before .before .before .before .if1 .left), lt-ltb _ 5 known, ← c .before .before .before .before .before .params-of .ensures, eq-eqb _ _ (c .before .before .before .before .if3 .left), eq-eqb _ _ (c .before .before .before .if4 .left), ap (all isKeyByte) (sym (take-rest (c .before .before .before .before .before .before .before .before .before .before .args .bytes .now) 1)) ∙ sym (c .before .are-key-bytes .ensures) ∙ c .if5 .taken)
 
 returns-6 : tie.Need-returns-6
 unfolding readSecretKeyRefusal isKey
 returns-6 c =
     let known : getD (c .before .before .before .before .before .before .before .before .before .before .args .bytes .now) 0 0 < 5 = omega arith in
-    rw (ne-eqb _ 0 (c .before .before .before .before .before .before .before .before .if1 .left), lt-ltb _ 5 known, ← c .before .before .before .before .before .params-of .ensures, eq-eqb _ _ (c .before .before .before .before .if3 .left), eq-eqb _ _ (c .before .before .before .if4 .left), ap (all isKeyByte) (sym (rest (c .before .before .before .before .before .before .before .before .before .before .args .bytes .now) 1)) ∙ sym (c .before .are-key-bytes .ensures) ∙ c .if5 .left)
+    rw (ne-eqb _ 0 (c .before .before .before .before .before .before .before .before .if1 .left), lt-ltb _ 5 known, ← c .before .before .before .before .before .params-of .ensures, eq-eqb _ _ (c .before .before .before .before .if3 .left), eq-eqb _ _ (c .before .before .before .if4 .left), ap (all isKeyByte) (sym (take-rest (c .before .before .before .before .before .before .before .before .before .before .args .bytes .now) 1)) ∙ sym (c .before .are-key-bytes .ensures) ∙ c .if5 .left)
 
 pub read-secret-key-refusal-spec : {M : Type 1} → statement M
 read-secret-key-refusal-spec =

@@ -12,7 +12,7 @@ use Rattle.encoding.specs.Encoding.{signatureSize, entriesRead, pointRead}
 use Rattle.answers.specs.Answer.{setByte}
 use Rattle.entry_codec.specs.Codec.{readSignatureRefusal, readEntriesWritten, readPointWritten}
 use Rattle.answers.proofs.Answering.{refused, kept, passed-equal, in-set-of}
-use Rattle.encoding.proofs.Parts.{rest, part-size, numbers-part}
+use Rattle.encoding.proofs.Parts.{take-rest, part-size, numbers-part}
 use Rattle.entry_codec.proofs.read_signature.Statement.{statement}
 use Rattle.entry_codec.proofs.read_signature.Tie as tie
 
@@ -72,7 +72,7 @@ read-signed-words-requires c κs =
     let k = allowed (a .bytes .now) (length (a .entries .now)) (length (a .z .now)) (sym (c .before .before .before .before .before .before .before .before .read-signature-refusal .ensures) ∙ c .before .before .before .before .before .before .before .if1 .left) in
     let m = 1 + 2 * length (a .entries .now) in
     let e : length (drop m (a .bytes .now)) ≡ 2 * length (a .z .now) = omega (arith, length-drop m (a .bytes .now), k .0) in
-    ap length (rest (a .bytes .now) m) ∙ e
+    ap length (take-rest (a .bytes .now) m) ∙ e
 
 same-length : tie.Need-same-length
 same-length c = search needs
@@ -90,7 +90,7 @@ returns-2 c =
       refl,
       (
         c .before .before .before .before .before .before .read-words .ensures ∙ numbers-part 2 (1 + m - 1) (drop 1 (a .bytes .now)) (omega arith) (k .1),
-        c .before .read-signed-words .ensures ∙ ap₂ (λ (n : ℕ) (l : List ℕ). map signed16 (numbers 2 n l)) (k .2) (rest (a .bytes .now) (1 + m) ∙ ap (λ (n : ℕ). drop (1 + 2 * n) (a .bytes .now)) (k .1)),
+        c .before .read-signed-words .ensures ∙ ap₂ (λ (n : ℕ) (l : List ℕ). map signed16 (numbers 2 n l)) (k .2) (take-rest (a .bytes .now) (1 + m) ∙ ap (λ (n : ℕ). drop (1 + 2 * n) (a .bytes .now)) (k .1)),
       ),
     )
 

@@ -10,7 +10,7 @@ use Rattle.algebra.specs.Choice.{pick}
 use Rattle.algebra.specs.Integer.{within}
 use Rattle.encoding.specs.Encoding.{arePoints, isKeyByte, isKey}
 use Rattle.entry_sign.specs.Sign.{areMasks, signRefusalIn}
-use Rattle.encoding.proofs.Parts.{rest}
+use Rattle.encoding.proofs.Parts.{take-rest}
 use Rattle.entry_sign.proofs.refusal_in.Statement.{statement}
 use Rattle.entry_sign.proofs.refusal_in.Tie as tie
 
@@ -27,7 +27,7 @@ key-test : (c : tie.After-are-key-bytes) →
 unfolding isKey
 key-test c =
     let key = c .before .before .before .before .before .before .before .before .before .before .before .before .args .key .now in
-    sym (c .are-key-bytes .ensures ∙ ap (all isKeyByte) (rest key 1))
+    sym (c .are-key-bytes .ensures ∙ ap (all isKeyByte) (take-rest key 1))
 
 add-if1 : tie.Need-add-if1
 add-if1 c = search needs

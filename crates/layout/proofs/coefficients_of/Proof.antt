@@ -9,13 +9,13 @@ use lib.ListN.{length, take, drop, replicate, length-drop, length-map}
 use lib.Seq.{length-take-le, take-at}
 use borrow.Author.Needs.{needs}
 use Rattle.encoding.specs.Encoding.{keyCoefficient, keyOf}
-use Rattle.encoding.proofs.Parts.{rest}
+use Rattle.encoding.proofs.Parts.{take-rest}
 use Rattle.layout.proofs.coefficients_of.Statement.{statement}
 use Rattle.layout.proofs.coefficients_of.Tie as tie
 
 -- the bytes after the set byte
 key-bytes : (key : List ℕ) (n : ℕ) → length key ≡ 1 + n → length (take (length key - 1) (drop 1 key)) ≡ n
-key-bytes key n e = ap length (rest key 1) ∙ omega (arith, length-drop 1 key)
+key-bytes key n e = ap length (take-rest key 1) ∙ omega (arith, length-drop 1 key)
 
 sub-read-key : tie.Need-sub-read-key
 sub-read-key c = search needs
@@ -46,7 +46,7 @@ returns c =
     let w = c .before .read-key in
     take-at (w .last .1 .0) (drop (s .args .n) (replicate 1153 (pos 0))) (s .args .n)
     (ap length (w .ensures) ∙ length-map (take (length (s .args .key .now) - 1) (drop 1 (s .args .key .now))) keyCoefficient ∙ key-bytes (s .args .key .now) (s .args .n) (s .pre .0))
-    ∙ w .ensures ∙ ap (map keyCoefficient) (rest (s .args .key .now) 1)
+    ∙ w .ensures ∙ ap (map keyCoefficient) (take-rest (s .args .key .now) 1)
 
 pub coefficients-of-spec : {M : Type 1} → statement M
 coefficients-of-spec =

@@ -9,7 +9,7 @@ use lib.Seq.{length-take-le, take-at}
 use borrow.Author.Needs.{needs}
 use Rattle.encoding.specs.Bytes.{numbers}
 use Rattle.encoding.specs.Encoding.{evaluationsOf}
-use Rattle.encoding.proofs.Parts.{rest}
+use Rattle.encoding.proofs.Parts.{take-rest}
 use Rattle.layout.proofs.evaluations_of.Statement.{statement}
 use Rattle.layout.proofs.evaluations_of.Tie as tie
 
@@ -39,7 +39,7 @@ read-triples-requires c κs =
     let s = c .before .before .before in
     let t = s .args .p .t in
     let e : length (drop (1 + 2 * t) (s .args .bytes .now)) ≡ 3 * t = omega (arith, length-drop (1 + 2 * t) (s .args .bytes .now), s .pre .1) in
-    ap length (rest (s .args .bytes .now) (1 + 2 * t)) ∙ e ∙ ap (λ (n : ℕ). 3 * n) (slice-aggregate-read-triples c)
+    ap length (take-rest (s .args .bytes .now) (1 + 2 * t)) ∙ e ∙ ap (λ (n : ℕ). 3 * n) (slice-aggregate-read-triples c)
 
 returns : tie.Need-returns
 unfolding evaluationsOf
@@ -49,7 +49,7 @@ returns c =
     let w = c .before .read-triples in
     let size = sym (slice-aggregate-read-triples (c .before .before)) in
     take-at (w .last .1 .0) (drop t (replicate 1152 0)) t (w .kept .1 .0 ∙ size)
-    ∙ w .ensures ∙ ap₂ (λ (n : ℕ) (l : List ℕ). numbers 3 n l) size (rest (s .bytes .now) (1 + 2 * t))
+    ∙ w .ensures ∙ ap₂ (λ (n : ℕ) (l : List ℕ). numbers 3 n l) size (take-rest (s .bytes .now) (1 + 2 * t))
 
 pub evaluations-of-spec : {M : Type 1} → statement M
 evaluations-of-spec =

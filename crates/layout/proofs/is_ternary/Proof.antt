@@ -7,10 +7,10 @@ use native.Mathlib.Omega.{arith}
 use lib.Dec.{leb}
 use lib.IntN.{ℤ, pos, natAbs}
 use lib.ListN.{length, getD, take}
-use mir.Syntax.{w8}
-use mir.Val.{toZ, ofZ}
-use mir.Facts.{toZ-ofZ}
+use mir.Syntax.{w8, w32}
 use borrow.Author.Needs.{needs}
+use Rattle.algebra.proofs.Signed.{widened}
+use Rattle.algebra.proofs.Widening.{fits-wider}
 use Rattle.polynomial.specs.Polynomial.{ternary}
 use Rattle.algebra.proofs.Loop.{all-step, all-done}
 use Rattle.layout.proofs.is_ternary.Statement.{statement}
@@ -28,11 +28,14 @@ abbrev μ-loop : tie.MeasureT-loop
 loop-holds : tie.Need-loop-holds Inv-loop μ-loop
 loop-holds c = (search needs, refl)
 
-shared-slice-copy-out-is-small : tie.Need-shared-slice-copy-out-is-small Inv-loop μ-loop
-shared-slice-copy-out-is-small c = omega arith
+shared-slice-copy-out-is-within : tie.Need-shared-slice-copy-out-is-within Inv-loop μ-loop
+shared-slice-copy-out-is-within c = omega arith
 
-is-small-requires : tie.Need-is-small-requires Inv-loop μ-loop
-is-small-requires c κs = search needs
+cast-is-within : tie.Need-cast-is-within Inv-loop μ-loop
+cast-is-within c = fits-wider w8 w32 tt (c .before .before .before .args .f .now) (c .before .before .loop .i) (c .is-within-arg .given)
+
+is-within-requires : tie.Need-is-within-requires Inv-loop μ-loop
+is-within-requires c κs = search needs
 
 add-i : tie.Need-add-i Inv-loop μ-loop
 add-i c = omega arith
@@ -44,8 +47,8 @@ loop-again : tie.Need-loop-again Inv-loop μ-loop
 loop-again c =
     let l = c .before .before .before .loop in
     let a : ℤ = getD (c .before .before .before .before .args .f .now) (l .i) (pos 0) in
-    let e : toZ w8 (ofZ w8 a) ≡ a = toZ-ofZ {w = w8} (record { sfits = c .before .is-small-arg .given }) in
-    (omega arith, all-step small (c .before .before .before .before .args .f .now) (l .i) (pos 0) (omega arith) (l .inv .1) (c .is-small .ensures ∙ ap small e))
+    let e = widened {w = w8} {z = a} (record { sfits = c .before .is-within-arg .given }) w32 tt in
+    (omega arith, all-step small (c .before .before .before .before .args .f .now) (l .i) (pos 0) (omega arith) (l .inv .1) (c .is-within .ensures ∙ ap small e))
 
 returns : tie.Need-returns Inv-loop μ-loop
 returns c =
@@ -59,8 +62,9 @@ is-ternary-spec =
     Inv-loop
     μ-loop
     loop-holds
-    shared-slice-copy-out-is-small
-    is-small-requires
+    shared-slice-copy-out-is-within
+    cast-is-within
+    is-within-requires
     add-i
     loop-less
     loop-again

@@ -4,7 +4,7 @@ use mathlib.Core.Path.{sym, ap, _∙_}
 use lib.ListN.{length}
 use lib.Seq.{length-take-le, take-at}
 use borrow.Author.Needs.{needs}
-use Rattle.verifier.proofs.Recovery.{length-evaluations}
+use Rattle.polynomial.proofs.EvaluationLaws.{length-evaluations}
 use Rattle.verifier.proofs.evaluations_at.Statement.{statement}
 use Rattle.verifier.proofs.evaluations_at.Tie as tie
 

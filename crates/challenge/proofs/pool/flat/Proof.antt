@@ -7,8 +7,8 @@ use native.Mathlib.Omega.{arith}
 use borrow.Author.Needs.{needs}
 use lib.ListN.{length, take}
 use lib.Seq.{take-all}
-use Rattle.algebra.proofs.List.{copy-more}
-use Rattle.challenge.proofs.Digests.{flatten-length, flatten-at}
+use Rattle.algebra.proofs.List.{copy-more, flatten-length}
+use Rattle.challenge.proofs.Digests.{pool-byte-at}
 use Rattle.challenge.proofs.pool.flat.Statement.{statement}
 use Rattle.challenge.proofs.pool.flat.Tie as tie
 
@@ -44,11 +44,11 @@ loop-again c =
     let l = c .before .before .loop in
     let s = c .before .before .before in
     let n : length (s .args .t1) ≡ 8 = search needs in
-    let m = flatten-length (s .args .t1) (s .pre) in (
+    let m = flatten-length 64 (s .args .t1) (s .pre) in (
       omega arith,
       search needs,
       copy-more (l .bytes) (flatten (s .args .t1)) (l .i) _ 0 (omega arith) (omega arith) (l .inv .2)
-          (sym (flatten-at (s .args .t1) (l .i) (s .pre) (omega arith))),
+          (sym (pool-byte-at (s .args .t1) (l .i) (s .pre) (omega arith))),
     )
 
 returns : tie.Need-returns Inv-loop μ-loop
@@ -56,7 +56,7 @@ returns c =
     let l = c .before .loop in
     let s = c .before .before in
     let n : length (s .args .t1) ≡ 8 = search needs in
-    let m = flatten-length (s .args .t1) (s .pre) in
+    let m = flatten-length 64 (s .args .t1) (s .pre) in
     let e : l .i ≡ 512 = omega arith in
     sym (take-all 512 (l .bytes) (omega arith)) ∙ rw e at (l .inv .2) ∙ take-all 512 (flatten (s .args .t1)) (omega arith)
 

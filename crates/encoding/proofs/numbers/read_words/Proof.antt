@@ -5,7 +5,7 @@ use Prim.Native.Nat.{ℕ, _-_, _≤_}
 use lib.ListN.{length, take, length-set}
 use Rattle.encoding.specs.Bytes.{numbers}
 use Rattle.algebra.proofs.List.{grow-to}
-use Rattle.encoding.proofs.Reading.{numbers-more, whole}
+use Rattle.encoding.proofs.Reading.{numbers-more, filled}
 use borrow.Author.Needs.{needs}
 use native.Mathlib.Omega.{arith}
 use Rattle.encoding.proofs.numbers.read_words.Statement.{statement}
@@ -49,7 +49,7 @@ same-length c = c .before .loop .inv .1
 returns : tie.Need-returns Inv-loop μ-loop
 returns c = let l = c .before .loop in
     let p = c .before .before .before .before .args in
-    whole (λ (k : ℕ). numbers 2 k (p .bytes .now)) (l .out) (l .i) (length (p .out .now)) (omega arith) (l .inv .1) (l .inv .2)
+    filled (λ (k : ℕ). numbers 2 k (p .bytes .now)) (l .out) (l .i) (length (p .out .now)) (omega arith) (l .inv .1) (l .inv .2)
 
 pub read-words-spec : {M : Type 1} → statement M
 read-words-spec =

@@ -7,7 +7,7 @@ use lib.ListN.{length, take, length-set}
 use mir.Syntax.{w16}
 use Rattle.encoding.specs.Bytes.{numbers, signed16}
 use Rattle.algebra.proofs.List.{grow-to}
-use Rattle.encoding.proofs.Reading.{mapped-numbers-more, whole}
+use Rattle.encoding.proofs.Reading.{mapped-numbers-more, filled}
 use Rattle.encoding.proofs.Sign.{reread}
 use borrow.Author.Needs.{needs}
 use native.Mathlib.Omega.{arith}
@@ -59,7 +59,7 @@ same-length c = c .before .loop .inv .1
 returns : tie.Need-returns Inv-loop μ-loop
 returns c = let l = c .before .loop in
     let p = c .before .before .before .args in
-    whole (λ (k : ℕ). map signed16 (numbers 2 k (p .bytes .now))) (l .out) (l .i) (length (p .out .now)) (omega arith) (l .inv .1) (l .inv .2)
+    filled (λ (k : ℕ). map signed16 (numbers 2 k (p .bytes .now))) (l .out) (l .i) (length (p .out .now)) (omega arith) (l .inv .1) (l .inv .2)
 
 pub read-signed-words-spec : {M : Type 1} → statement M
 read-signed-words-spec =

@@ -6,8 +6,10 @@ use Prim.Native.Nat.{_-_, _≤_}
 use lib.IntN.{pos}
 use lib.ListN.{length, getD, length-map, List·getD-map}
 use lib.Signed.{natAbs-le}
+use mir.Syntax.{w16, w32}
+use Rattle.algebra.proofs.Signed.{widened}
+use Rattle.algebra.proofs.Widening.{fits-wider}
 use Rattle.encoding.specs.Bytes.{bits16}
-use Rattle.encoding.proofs.Sign.{widens, widened}
 use Rattle.encoding.proofs.Writing.{Written, written-none, written-more, written-all}
 use borrow.Author.Needs.{needs}
 use native.Mathlib.Omega.{arith}
@@ -35,11 +37,11 @@ shared-slice-copy-out-bits-of : tie.Need-shared-slice-copy-out-bits-of Inv-loop 
 shared-slice-copy-out-bits-of c = search needs
 
 cast-bits-of : tie.Need-cast-bits-of Inv-loop μ-loop
-cast-bits-of c = widens (getD (c .before .before .before .before .before .args .values .now) (c .before .before .before .loop .i) (pos 0)) (c .bits-of-arg .given)
+cast-bits-of c = fits-wider w16 w32 tt (c .before .before .before .before .before .args .values .now) (c .before .before .before .loop .i) (c .bits-of-arg .given)
 
 bits-of-requires : tie.Need-bits-of-requires Inv-loop μ-loop
 bits-of-requires c κs = let z = getD (c .before .before .before .before .before .args .values .now) (c .before .before .before .loop .i) (pos 0) in
-    rw (widened z (c .bits-of-arg .given)) (natAbs-le z (c .bits-of-arg .given))
+    rw (widened {w = w16} {z = z} (record { sfits = c .bits-of-arg .given }) w32 tt) (natAbs-le z (c .bits-of-arg .given))
 
 put-word-requires : tie.Need-put-word-requires Inv-loop μ-loop
 put-word-requires c κs = omega (arith, length-map (c .before .before .before .before .before .before .args .values .now) bits16)
@@ -56,7 +58,7 @@ loop-again c = let l = c .before .before .before .before .before .before .before
     let n = length-map values bits16 in (
       omega arith,
       written-more 2 (map bits16 values) (l .out) (l .i) (omega arith) (l .inv .1)
-          (c .before .before .before .bits-of .ensures ∙ ap bits16 (widened (getD values (l .i) (pos 0)) (c .before .before .before .before .bits-of-arg .given)) ∙ sym (List·getD-map bits16 values (l .i) (pos 0)))
+          (c .before .before .before .bits-of .ensures ∙ ap bits16 (widened {w = w16} {z = getD values (l .i) (pos 0)} (record { sfits = c .before .before .before .before .bits-of-arg .given }) w32 tt) ∙ sym (List·getD-map bits16 values (l .i) (pos 0)))
           (c .before .before .put-word .ensures),
     )
 

@@ -6,7 +6,7 @@ use borrow.Author.Tests.{eq-eqb, ne-eqb, not-true, not-false}
 use Rattle.algebra.specs.All.{all}
 use Rattle.encoding.specs.Encoding.{isKeyByte, isKey}
 use Rattle.entry_values.specs.Keys.{publicKeyRefusalIn}
-use Rattle.encoding.proofs.Parts.{rest}
+use Rattle.encoding.proofs.Parts.{take-rest}
 use Rattle.entry_values.proofs.keys.refusal_in.Statement.{statement}
 use Rattle.entry_values.proofs.keys.refusal_in.Tie as tie
 
@@ -69,7 +69,7 @@ returns-5 c =
       eq-eqb _ _ (s .before .if2 .left),
       eq-eqb _ _ (s .if3 .left),
       sym (g .before .are-points .ensures) ∙ not-false _ (g .if4 .left),
-      ap (all isKeyByte) (sym (rest key 1)) ∙ sym (c .before .are-key-bytes .ensures) ∙ c .if5 .taken,
+      ap (all isKeyByte) (sym (take-rest key 1)) ∙ sym (c .before .are-key-bytes .ensures) ∙ c .if5 .taken,
     )
 
 returns-6 : tie.Need-returns-6
@@ -83,7 +83,7 @@ returns-6 c =
       eq-eqb _ _ (s .before .if2 .left),
       eq-eqb _ _ (s .if3 .left),
       sym (g .before .are-points .ensures) ∙ not-false _ (g .if4 .left),
-      ap (all isKeyByte) (sym (rest key 1)) ∙ sym (c .before .are-key-bytes .ensures) ∙ c .if5 .left,
+      ap (all isKeyByte) (sym (take-rest key 1)) ∙ sym (c .before .are-key-bytes .ensures) ∙ c .if5 .left,
     )
 
 pub refusal-in-spec : {M : Type 1} → statement M
