@@ -142,13 +142,13 @@ module _ (l : Library) (m : Made) where
   abbrev pub maskFor : List ℕ → List ℤ
   maskFor other = sub (signatureIn .z) (star (keyOf other) (signatureIn .c))
 
--- ---- lists of signings
-
 -- exactly one: it does, and whatever does is it
 pub record ExactlyOne {A : Type 0} (P : A → Type 0) : Type 0 where
   pub it : A
   pub does : P it
   pub only : (a : A) → P a → a ≡ it
+
+-- ---- lists of signings
 
 -- P holds at each place
 abbrev pub Every : {A : Type 0} → (A → Type 0) → List A → Type 0
