@@ -20,6 +20,7 @@ use Rattle.answers.specs.declared.Verdict.the-variants as verdict
 abbrev pub setByte : List ℕ → ℕ
 setByte xs = getD xs 0 0
 
+-- the parameters of that set
 abbrev pub setIn : List ℕ → Params
 setIn xs = setOf (setByte xs)
 

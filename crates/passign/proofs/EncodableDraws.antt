@@ -1,4 +1,4 @@
--- A way to draw of which the theorems on bytes hold has what the theorems on polynomials ask of it.
+-- What the theorems on bytes ask of a way to draw includes what those on polynomials ask of it: a weight that is b is at most b.
 -- Assumes nothing.
 use native.Mathlib.Nat.{le-of-eq}
 use Rattle.parameters.specs.declared.Params.{Params}

@@ -30,7 +30,7 @@ use Rattle.entry_sign.specs.Sign.{signAnswerIn, signWrittenIn, signAnswer, sign
 use Rattle.entry_check.specs.Check.{signatureRead, checkAnswerIn, checkAnswer}
 
 -- what the theorems on bytes ask of a set and a way to draw: besides soundness that all has room in the encodings, and that a drawn
--- challenge has N coefficients, each -1, 0 or 1, and exactly b of them not 0
+-- challenge is sparse
 pub record Encodable (draw : Drawer) (p : Params) : Type 0 where
   pub sound : Sound p
   pub fitting : Fitting p

@@ -58,7 +58,8 @@ sign-with-mask-requires : tie.Need-sign-with-mask-requires Inv-loop μ-loop
 sign-with-mask-requires c κs =
     let s = c .before .before .before .before .before .before .before .before in
     let l = c .before .before .before .loop in
-    let e = ap length (mask-between (s .args .p) (s .args .masks .now) (l .i)) ∙ mask-size (s .args .p) (s .args .masks .now) (l .i) (c .before .before .loop-test .taken) in
+    let m = s .args .masks .now in
+    let e = ap length (mask-between (s .args .p) m (l .i)) ∙ mask-size (s .args .p) m (l .i) (c .before .before .loop-test .taken) in
     (one-mask (s .pre) e (l .inv .2), e)
 
 same-length : tie.Need-same-length Inv-loop μ-loop
