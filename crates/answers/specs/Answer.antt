@@ -20,6 +20,10 @@ use Rattle.answers.specs.declared.Verdict.the-variants as verdict
 abbrev pub setByte : List ℕ → ℕ
 setByte xs = getD xs 0 0
 
+-- the parameters of that set
+abbrev pub setIn : List ℕ → Params
+setIn xs = setOf (setByte xs)
+
 -- a message of more than 65,535 bytes is too long
 abbrev pub isLong : List ℕ → Bool
 isLong message = ltb 65535 (length message)

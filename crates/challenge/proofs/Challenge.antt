@@ -16,14 +16,8 @@ use Rattle.algebra.proofs.Test.{pick-by, by-test}
 use Rattle.parameters.specs.declared.Params.{Params}
 use Rattle.polynomial.specs.Polynomial.{coefficient, ternary, weight}
 use Rattle.challenge.specs.Pool.{pool}
-use Rattle.challenge.specs.Draw.{signAt, valueAt, taken, withValue, kept, placed, valueCount, draw, drawChallenge}
+use Rattle.challenge.specs.Draw.{signAt, valueAt, taken, withValue, kept, placed, valueCount, draw, drawChallenge, Sparse}
 use Rattle.challenge.proofs.Kept.{index-below, sign-abs, taken-more, placed-more}
-
--- N coefficients, each -1, 0 or 1, and b of them not 0
-pub record Sparse (p : Params) (c : List ℤ) : Type 0 where
-  pub size : length c ≡ p .n
-  pub small : T (ternary c)
-  pub full : weight c ≡ p .b
 
 neither : (a b : Bool) → a || b ≡ false → (a ≡ false) × (b ≡ false)
 neither true b e = absurd (false≢true (sym e))

@@ -1,14 +1,16 @@
 -- Document 01, "Hash and challenge": the drawer. A pool is a list of bytes.
 -- Assumes nothing.
+use mathlib.Core.Path.{_≡_}
 use mathlib.Core.Bool.{Bool, false, _||_}
 use mathlib.Core.List.{List, [], _∷_, _++_}
 use mathlib.Core.Option.{Option, none, some}
 use Prim.Native.Nat.{ℕ, zero, suc, _+_, _-_, _*_, _/_, _%_, _^_}
-use lib.Dec.{leb, eqb}
+use lib.Dec.{T, leb, eqb}
 use lib.IntN.{ℤ, pos, negsuc}
 use lib.ListN.{length, getD, set, take, replicate}
 use Rattle.algebra.specs.Choice.{pick}
 use Rattle.parameters.specs.declared.Params.{Params}
+use Rattle.polynomial.specs.Polynomial.{ternary, weight}
 use Rattle.challenge.specs.declared.Drawn.{Drawn}
 use Rattle.challenge.specs.Pool.{pool}
 
@@ -62,6 +64,12 @@ draw p bytes =
 -- the challenge of a commitment and a message
 unfoldable pub drawChallenge : Params → List ℕ → List ℕ → Option (List ℤ)
 drawChallenge p w message = draw p (pool w message)
+
+-- what a drawn challenge is: N coefficients, each -1, 0 or 1, and exactly b of them not 0
+pub record Sparse (p : Params) (c : List ℤ) : Type 0 where
+  pub size : length c ≡ p .n
+  pub small : T (ternary c)
+  pub full : weight c ≡ p .b
 
 -- what the drawer's answer says: its first N coefficients, or that the pool is spent
 abbrev pub drawnOf : Params → Drawn → Option (List ℤ)

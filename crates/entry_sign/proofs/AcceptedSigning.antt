@@ -16,14 +16,14 @@ use Rattle.scheme.specs.Scheme.{Drawer, Signed, signing}
 use Rattle.scheme.specs.FirstPassing.{FirstPassing}
 use Rattle.scheme.proofs.Attempt.{Passes, attempt-iff}
 use Rattle.scheme.proofs.FirstPassing.{first-passing}
-use Rattle.signer.specs.Signer.{masksOf, signatureOf, signedBy}
+use Rattle.signer.specs.Signer.{offeredCount, masksOf, maskAt, signatureOf, signedBy}
+use Rattle.signer.proofs.Masks.{masks-count, mask-at}
 use Rattle.answers.specs.declared.Signing.the-variants as answer
 use Rattle.answers.specs.Answer.{setByte}
-use Rattle.entry_sign.specs.Sign.{offeredCount, maskAt, signRefusalIn, signedAnswer, signAnswerIn, signWrittenIn}
+use Rattle.entry_sign.specs.Sign.{signRefusalIn, signedAnswer, signAnswerIn, signWrittenIn}
 use Rattle.answers.proofs.Apart.{refused-not-signed}
 use Rattle.answers.proofs.Refusal.{chosen, equal-iff}
 use Rattle.entry_sign.proofs.Allowed.{SignAllowed, sign-allowed}
-use Rattle.entry_sign.proofs.Masks.{masks-count, mask-at}
 use Rattle.layout.proofs.EncodedKey.{key-size}
 
 signed-by : (o : Option Signed) {i : ℕ} → signedAnswer o ≡ answer.Signed i → (r : Signed) × ((o ≡ some r) × (r .passedOver ≡ i))

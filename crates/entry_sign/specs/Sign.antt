@@ -4,10 +4,10 @@
 use mathlib.Core.Bool.{Bool, not, _&&_}
 use mathlib.Core.List.{List}
 use mathlib.Core.Option.{Option, none, some}
-use Prim.Native.Nat.{ℕ, _*_, _/_, _%_}
+use Prim.Native.Nat.{ℕ, _*_, _%_}
 use lib.Dec.{leb, eqb}
 use lib.IntN.{ℤ}
-use lib.ListN.{length, take, drop}
+use lib.ListN.{length}
 use Rattle.algebra.specs.Choice.{pick}
 use Rattle.algebra.specs.Integer.{within}
 use Rattle.parameters.specs.declared.Params.{Params}
@@ -23,14 +23,6 @@ use Rattle.answers.specs.Answer.{setByte, isLong}
 -- masks one after the other, N numbers each, at most eight
 abbrev pub areMasks : Params → List ℤ → Bool
 areMasks p masks = eqb (length masks % p .n) 0 && leb (length masks) (8 * p .n)
-
--- how many masks are offered
-abbrev pub offeredCount : Params → List ℤ → ℕ
-offeredCount p masks = length masks / p .n
-
--- mask number i of masks that lie one after the other
-abbrev pub maskAt : Params → List ℤ → ℕ → List ℤ
-maskAt p masks i = take (p .n) (drop (i * p .n) masks)
 
 -- the lengths, then 4, 5, 6: all masks are tested before any is tried
 unfoldable pub signRefusalIn : Params → List ℕ → List ℕ → List ℤ → ℕ → ℕ

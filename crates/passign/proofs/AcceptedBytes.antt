@@ -11,24 +11,22 @@ use Rattle.polynomial.specs.Evaluation.{evaluations}
 use Rattle.polynomial.proofs.Length.{length-point}
 use Rattle.encoding.specs.Encoding.{keyOf}
 use Rattle.scheme.specs.Scheme.{Drawer, Signed}
+use Rattle.signer.specs.Signer.{maskAt}
+use Rattle.signer.proofs.Masks.{mask-size}
 use Rattle.answers.specs.Answer.{setByte}
-use Rattle.entry_sign.specs.Sign.{signWrittenIn, maskAt}
+use Rattle.entry_sign.specs.Sign.{signWrittenIn}
 use Rattle.entry_check.specs.Check.{signatureRead}
 use Rattle.passign.specs.Hiding.{Encodable}
-use Rattle.entry_sign.proofs.Masks.{mask-size}
 use Rattle.entry_sign.proofs.AcceptedSigning.{SignedAs, signed-bytes, size-of-key, offered, passes-of}
-use Rattle.passign.proofs.Encoded.{Writable, signature-back}
+use Rattle.passign.proofs.Encoded.{SignatureFits, signature-back}
 
 module _ {draw : Drawer} {p : Params} {key points : List ℕ} {masks : List ℤ} {message out : List ℕ} {r : Signed} {i : ℕ}
     (a : SignedAs draw p key points masks message out r i) (e : Encodable draw p) where
-  pub writable : Writable p (r .signature)
-  writable =
-      let w = evaluations p (maskAt p masks i) points in
+  pub signature-fits : SignatureFits p (r .signature)
+  signature-fits =
       let c = r .signature .c in
       record {
-        challenge-size = e .draws .size w message c (passes-of a .challenge);
-        challenge-ternary = e .draws .small w message c (passes-of a .challenge);
-        exact = e .exact w message c (passes-of a .challenge);
+        challenge = e .draws (evaluations p (maskAt p masks i) points) message c (passes-of a .challenge);
         point-size =
             ap length (passes-of a .is-point)
             ∙ length-point (keyOf key) c (maskAt p masks i) (le-of-eq (size-of-key a ∙ sym (mask-size p masks i (offered a)))) ∙ mask-size p masks i (offered a);
@@ -37,4 +35,4 @@ module _ {draw : Drawer} {p : Params} {key points : List ℕ} {masks : List ℤ}
 
   -- the bytes mean the signature
   pub meaning : signatureRead p (signWrittenIn draw p key points masks message out) ≡ r .signature
-  meaning = ap (signatureRead p) (signed-bytes a) ∙ signature-back (e .fitting) (setByte key) (r .signature) writable
+  meaning = ap (signatureRead p) (signed-bytes a) ∙ signature-back (e .fitting) (setByte key) (r .signature) signature-fits

@@ -7,7 +7,6 @@ use native.Mathlib.Omega.{arith}
 use lib.IntN.{ℤ}
 use lib.ListN.{length}
 use Rattle.parameters.specs.declared.Params.{Params}
-use Rattle.parameters.specs.Sets.{setOf}
 use Rattle.polynomial.specs.Evaluation.{evaluations}
 use Rattle.challenge.specs.Draw.{drawChallenge}
 use Rattle.encoding.specs.Challenge.{areEntries}
@@ -18,7 +17,7 @@ use Rattle.scheme.proofs.Verdict.{verdict-true}
 use Rattle.signer.specs.Signer.{masksOf, signatureOf}
 use Rattle.answers.specs.declared.Signing.the-variants as signing
 use Rattle.answers.specs.declared.Verdict.the-variants as verdict
-use Rattle.answers.specs.Answer.{setByte}
+use Rattle.answers.specs.Answer.{setByte, setIn}
 use Rattle.entry_sign.specs.Sign.{signAnswerIn, signWrittenIn, signAnswer, signWritten}
 use Rattle.entry_check.specs.Check.{checkRefusalIn, checkAnswerIn, checkAnswer}
 use Rattle.entry_values.specs.Keys.{publicKeyRefusal, publicKeyIn, publicKeyWritten}
@@ -28,7 +27,7 @@ use Rattle.answers.proofs.Apart.{refused-not-signed, refused-not-yes}
 use Rattle.entry_check.proofs.Allowed.{check-allowed}
 use Rattle.passign.proofs.Encoded.{PublicKeyRead, public-key-read, signature-size, entries-allowed}
 use Rattle.entry_sign.proofs.AcceptedSigning.{SignedAs, signed-bytes, accepted-signing, signing-of, allowed-of, size-of-key}
-use Rattle.passign.proofs.AcceptedBytes.{writable, meaning}
+use Rattle.passign.proofs.AcceptedBytes.{signature-fits, meaning}
 use Rattle.passign.proofs.VerdictRule.{verdict-yes}
 use Rattle.passign.proofs.FiveSets.{set-encodable}
 use Rattle.passign.proofs.Entry.{sign-entry, written-entry, check-entry, public-key-entry}
@@ -44,11 +43,11 @@ module _ {draw : Drawer} {p : Params} (e : Encodable draw p) (key points : List 
     allowed =
         check-allowed p (publicKeyIn p key points) (signWrittenIn draw p key points masks message out) .1 (record {
           key-size = public-key .size;
-          signature-size = ap length (signed-bytes a) ∙ signature-size (e .fitting) (setByte key) (r .signature) (writable a e);
+          signature-size = ap length (signed-bytes a) ∙ signature-size (e .fitting) (setByte key) (r .signature) (signature-fits a e);
           points-rise = ap (arePoints p) (public-key .points-back) ∙ allowed-of a .points-rise;
           evaluations-below = ap (areEvaluations p) (public-key .evaluations-back) ∙ public-key .evaluations-allowed;
           entries-increase =
-              ap (λ (xs : List ℕ). areEntries (p .n) (entriesRead p xs)) (signed-bytes a) ∙ entries-allowed (e .fitting) (setByte key) (r .signature) (writable a e);
+              ap (λ (xs : List ℕ). areEntries (p .n) (entriesRead p xs)) (signed-bytes a) ∙ entries-allowed (e .fitting) (setByte key) (r .signature) (signature-fits a e);
         })
 
     -- and the rule holds of what is read
@@ -88,10 +87,10 @@ module _ (xs : List ℕ) (s : ℕ) (r : Signed) (is : xs ≡ signatureOf s (r .s
 module _ (key points : List ℕ) (masks : List ℤ) (message out : List ℕ) where
   -- where the public key is given
   pub sign-then-check : {i : ℕ} → signAnswer key points masks message out ≡ signing.Signed i
-      → checkAnswer (publicKeyIn (setOf (setByte key)) key points) message (signWritten key points masks message out) ≡ verdict.Yes
+      → checkAnswer (publicKeyIn (setIn key) key points) message (signWritten key points masks message out) ≡ verdict.Yes
   sign-then-check accepted =
       let h = sign-entry refused-not-signed refused-not-signed key points masks message out .0 accepted in
-      let p = setOf (setByte key) in
+      let p = setIn key in
       let w = accepted-signing drawChallenge p key points masks message out (h .1) in
       let is = written-entry key points masks message out (h .0) ∙ signed-bytes (w .1) in
       check-entry refused-not-yes refused-not-yes (publicKeyIn p key points) message (signWritten key points masks message out) .1 (

@@ -17,6 +17,7 @@ use Rattle.parameters.specs.Sound.{Sound, Fitting}
 use Rattle.polynomial.specs.Polynomial.{ternary, weight}
 use Rattle.polynomial.specs.Evaluation.{evaluations}
 use Rattle.polynomial.proofs.EvaluationLaws.{length-evaluations, evaluations-below}
+use Rattle.challenge.specs.Draw.{Sparse}
 use Rattle.encoding.specs.Challenge.{entriesFrom, entriesOf, areEntries, challengeOf}
 use Rattle.encoding.specs.Encoding.{publicKeySize, publicKey, arePoints, areEvaluations, pointsOf, evaluationsOf, signatureSize, SignatureRange, entriesRead, pointRead}
 use Rattle.encoding.proofs.Sign.{mag-le}
@@ -59,21 +60,19 @@ entries-count i (pos (suc a) ∷ c) t =
 entries-count i (negsuc a ∷ c) t =
     omega (arith, entries-count (suc i) c (and-right (leb (suc a) 1) (ternary c) t), leb→le (suc a) 1 (and-left (leb (suc a) 1) (ternary c) t))
 
--- what the signature of an accepted signing has: N coefficients each, a ternary challenge with b entries, and z in range
-pub record Writable (p : Params) (s : Signature) : Type 0 where
-  pub challenge-size : length (s .c) ≡ p .n
-  pub challenge-ternary : T (ternary (s .c))
-  pub exact : weight (s .c) ≡ p .b
+-- what the signature of an accepted signing has: a sparse challenge, and a point of N coefficients in range
+pub record SignatureFits (p : Params) (s : Signature) : Type 0 where
+  pub challenge : Sparse p (s .c)
   pub point-size : length (s .z) ≡ p .n
   pub range : T (within (p .k - p .b) (s .z))
 
-module _ {p : Params} (fitting : Fitting p) (set : ℕ) (s : Signature) (w : Writable p s) where
+module _ {p : Params} (fitting : Fitting p) (set : ℕ) (s : Signature) (w : SignatureFits p s) where
   challenge-fits : length (s .c) ≤ 32768
-  challenge-fits = omega (arith, w .challenge-size, fitting .size)
+  challenge-fits = omega (arith, w .challenge .size, fitting .size)
 
   signature-range : SignatureRange p (entriesOf (s .c)) (s .z)
   signature-range = record {
-    entries-length = entries-count 0 (s .c) (w .challenge-ternary) ∙ w .exact;
+    entries-length = entries-count 0 (s .c) (w .challenge .small) ∙ w .challenge .full;
     entries-below = entries-below (s .c) challenge-fits;
     point-length = w .point-size;
     point-signed =
@@ -95,7 +94,7 @@ module _ {p : Params} (fitting : Fitting p) (set : ℕ) (s : Signature) (w : Wri
 
   pub entries-allowed : areEntries (p .n) (entriesRead p (signatureOf set s)) ≡ true
   entries-allowed =
-      ap (areEntries (p .n)) entries-back ∙ ap (λ (n : ℕ). areEntries n (entriesOf (s .c))) (sym (w .challenge-size))
+      ap (areEntries (p .n)) entries-back ∙ ap (λ (n : ℕ). areEntries n (entriesOf (s .c))) (sym (w .challenge .size))
       ∙ holds-true (areEntries (length (s .c)) (entriesOf (s .c))) (entries-accepted (s .c) challenge-fits)
 
   -- the bytes mean what was signed
@@ -103,6 +102,6 @@ module _ {p : Params} (fitting : Fitting p) (set : ℕ) (s : Signature) (w : Wri
   unfolding signatureRead
   signature-back =
       ap₂ (λ (c z : List ℤ). record { c = c; z = z })
-      (ap (challengeOf (p .n)) entries-back ∙ ap (λ (n : ℕ). challengeOf n (entriesOf (s .c))) (sym (w .challenge-size))
-      ∙ challenge-read-back (s .c) challenge-fits (w .challenge-ternary))
+      (ap (challengeOf (p .n)) entries-back ∙ ap (λ (n : ℕ). challengeOf n (entriesOf (s .c))) (sym (w .challenge .size))
+      ∙ challenge-read-back (s .c) challenge-fits (w .challenge .small))
       point-back

@@ -14,20 +14,19 @@ use lib.ListN.{length, getD}
 use Rattle.algebra.specs.Choice.{pick}
 use Rattle.algebra.specs.Integer.{within}
 use Rattle.parameters.specs.declared.Params.{Params}
-use Rattle.parameters.specs.Sets.{setOf}
 use Rattle.polynomial.specs.Evaluation.{evaluations}
 use Rattle.challenge.specs.Draw.{drawChallenge}
 use Rattle.encoding.specs.Encoding.{secretKeySize, signatureSize, arePoints, isKey, keyOf}
 use Rattle.scheme.specs.Scheme.{Drawer, Signed, attempt}
 use Rattle.scheme.proofs.FirstPassing.{first-passing, none-passing, passed-over}
-use Rattle.signer.specs.Signer.{masksOf, signedBy}
+use Rattle.signer.specs.Signer.{offeredCount, masksOf, maskAt, signedBy}
+use Rattle.signer.proofs.Masks.{masks-count, mask-at}
 use Rattle.answers.specs.declared.Signing.the-variants as answer
-use Rattle.answers.specs.Answer.{setByte}
-use Rattle.entry_sign.specs.Sign.{areMasks, offeredCount, maskAt, signRefusalIn, signedAnswer, signAnswerIn, signWrittenIn, signAnswer, signWritten}
-use Rattle.passign.specs.FirstPassing.{attemptAt, failuresBefore, NoMask, FirstSigns, SignUnrefused}
+use Rattle.answers.specs.Answer.{setIn}
+use Rattle.entry_sign.specs.Sign.{areMasks, signRefusalIn, signedAnswer, signAnswerIn, signWrittenIn, signAnswer, signWritten}
+use Rattle.passign.specs.FirstPassing.{attemptAt, failuresBefore, NonePasses, FirstSigns, SignUnrefused}
 use Rattle.answers.proofs.Apart.{refused-same, refused-not-signed}
 use Rattle.answers.proofs.Refusal.{chosen, equal-iff}
-use Rattle.entry_sign.proofs.Masks.{masks-count, mask-at}
 use Rattle.entry_sign.proofs.AcceptedSigning.{SignedAs, signed-answer, signed-bytes, accepted-signing, signing-of, first-of, offered}
 use Rattle.passign.proofs.Entry.{sign-entry, written-entry}
 
@@ -52,7 +51,7 @@ module _ (draw : Drawer) (p : Params) (key points : List ℕ) (masks : List ℤ)
   attempt-at : (j : ℕ) → j < offeredCount p masks → attempt draw p points message (keyOf key) (getD (masksOf p masks) j []) ≡ attemptAt draw p key points masks message j
   attempt-at j h = ap (attempt draw p points message (keyOf key)) (mask-at p masks j h)
 
-  none-iff : (signedBy draw p (keyOf key) points masks message ≡ none) ↔ NoMask draw p key points masks message
+  none-iff : (signedBy draw p (keyOf key) points masks message ≡ none) ↔ NonePasses draw p key points masks message
   unfolding signedBy
   none-iff =
       let n = none-passing draw p points message (keyOf key) (masksOf p masks) in
@@ -103,7 +102,7 @@ module _ (draw : Drawer) (p : Params) (key points : List ℕ) (masks : List ℤ)
     )
 
     -- and refused with 9 where none passes
-    pub none-signs : (signAnswerIn draw p key points masks message out ≡ answer.Refused 9) ↔ ((signRefusalIn p key points masks (length out) ≡ 0) × NoMask draw p key points masks message)
+    pub none-signs : (signAnswerIn draw p key points masks message out ≡ answer.Refused 9) ↔ ((signRefusalIn p key points masks (length out) ≡ 0) × NonePasses draw p key points masks message)
     unfolding signAnswerIn
     none-signs =
         Iff·trans
@@ -113,14 +112,11 @@ module _ (draw : Drawer) (p : Params) (key points : List ℕ) (masks : List ℤ)
 
 -- the entry, in the set of the key's first byte
 module _ (key points : List ℕ) (masks : List ℤ) (message out : List ℕ) where
-  abbrev in-set : Params
-  in-set = setOf (setByte key)
-
   pub entry-first-signs : (i : ℕ) → (signAnswer key points masks message out ≡ answer.Signed i)
-      ↔ (SignUnrefused key points masks message out × FirstSigns drawChallenge in-set key points masks message (signWritten key points masks message out) i)
+      ↔ (SignUnrefused key points masks message out × FirstSigns drawChallenge (setIn key) key points masks message (signWritten key points masks message out) i)
   entry-first-signs i =
       let entry = sign-entry refused-not-signed refused-not-signed key points masks message out in
-      let signs = first-signs drawChallenge in-set key points masks message out i in (
+      let signs = first-signs drawChallenge (setIn key) key points masks message out i in (
         λ e.
             let h = entry .0 e in
             let w = signs .0 (h .1) in
@@ -128,11 +124,11 @@ module _ (key points : List ℕ) (masks : List ℤ) (message out : List ℕ) whe
         λ h. entry .1 (h .0 .known, signs .1 (h .0 .allowed, rw (written-entry key points masks message out (h .0 .known)) at (h .1))),
       )
 
-  pub entry-none-signs : (signAnswer key points masks message out ≡ answer.Refused 9) ↔ (SignUnrefused key points masks message out × NoMask drawChallenge in-set key points masks message)
+  pub entry-none-signs : (signAnswer key points masks message out ≡ answer.Refused 9) ↔ (SignUnrefused key points masks message out × NonePasses drawChallenge (setIn key) key points masks message)
   entry-none-signs =
       let entry = sign-entry {y = answer.Refused 9} (λ e. let n : _≡_ {A = ℕ} 1 9 = refused-same e in omega arith)
       (λ e. let n : _≡_ {A = ℕ} 2 9 = refused-same e in omega arith) key points masks message out in
-      let signs = none-signs drawChallenge in-set key points masks message out in (
+      let signs = none-signs drawChallenge (setIn key) key points masks message out in (
         λ e.
             let h = entry .0 e in
             let w = signs .0 (h .1) in

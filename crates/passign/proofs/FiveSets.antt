@@ -1,6 +1,5 @@
 -- The five sets of document 01, with its rule of drawing, have all that the theorems on bytes ask.
 -- Assumes nothing.
-use native.Mathlib.Nat.{le-of-eq}
 use Prim.Native.Nat.{ℕ, _<_}
 use Rattle.parameters.specs.Sets.{setOf}
 use Rattle.parameters.proofs.Sound.{set-sound, set-fitting}
@@ -9,13 +8,4 @@ use Rattle.challenge.proofs.Challenge.{challenge-sparse}
 use Rattle.passign.specs.Hiding.{Encodable}
 
 pub set-encodable : (s : ℕ) → s < 5 → Encodable drawChallenge (setOf s)
-set-encodable s h = record {
-  sound = set-sound s h;
-  fitting = set-fitting s h;
-  draws = record {
-    size = λ w m c e. challenge-sparse (setOf s) w m c e .size;
-    small = λ w m c e. challenge-sparse (setOf s) w m c e .small;
-    light = λ w m c e. le-of-eq (challenge-sparse (setOf s) w m c e .full);
-  };
-  exact = λ w m c e. challenge-sparse (setOf s) w m c e .full;
-}
+set-encodable s h = record { sound = set-sound s h; fitting = set-fitting s h; draws = challenge-sparse (setOf s) }

@@ -12,11 +12,11 @@ use Rattle.challenge.specs.Draw.{drawChallenge}
 use Rattle.scheme.specs.Scheme.{Drawer}
 use Rattle.answers.specs.declared.Signing.the-variants as signing
 use Rattle.answers.specs.declared.Verdict.the-variants as verdict
-use Rattle.answers.specs.Answer.{setByte}
+use Rattle.answers.specs.Answer.{setByte, setIn}
 use Rattle.entry_check.specs.Check.{checkAnswerIn, checkAnswer}
 use Rattle.entry_values.specs.Keys.{publicKeyIn}
 use Rattle.passign.specs.Known.{Known}
-use Rattle.passign.specs.Hiding.{Encodable, offeredAlone, Library, signsIn, writesIn, anyLibrary, entries, Made, paramsOf, Accepted, OtherKey}
+use Rattle.passign.specs.Hiding.{Encodable, offeredAlone, Library, signsIn, writesIn, anyLibrary, ourLibrary, Made, paramsOf, Accepted, OtherKey}
 use Rattle.answers.proofs.Apart.{refused-not-signed}
 use Rattle.passign.proofs.Correctness.{correctness, set-of-public-key, sign-then-check}
 use Rattle.passign.proofs.FiveSets.{set-encodable}
@@ -55,12 +55,12 @@ any-follows {set} {draw} m e a =
     }
 
 -- the entries
-pub entries-follow : (m : Made) → Accepted entries m → Follows entries m
-entries-follow m a =
+pub our-library-follows : (m : Made) → Accepted ourLibrary m → Follows ourLibrary m
+our-library-follows m a =
     let call = m .call in
-    let p = setOf (setByte (call .key)) in
+    let p = setIn (call .key) in
     let (k, here) = sign-entry refused-not-signed refused-not-signed (call .key) (call .points) (call .masks) (call .message) (call .out) .0 (a .answer) in
-    let known : (other : List ℕ) → OtherKey entries m other → Known other (call .message) =
+    let known : (other : List ℕ) → OtherKey ourLibrary m other → Known other (call .message) =
     λ other o. record { message-size = k .message-size; key-some = λ h. omega (arith, h, o .size); set = rw (o .set) (k .set) } in
     record {
       encodable = set-encodable (setByte (call .key)) (k .set);

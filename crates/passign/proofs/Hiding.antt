@@ -9,11 +9,10 @@ use lib.IntN.{ℤ}
 use Rattle.parameters.specs.declared.Params.{Params}
 use Rattle.encoding.specs.Encoding.{publicKey}
 use Rattle.scheme.specs.Scheme.{Drawer}
-use Rattle.scheme.specs.Hiding.{ExactlyOne}
-use Rattle.scheme.proofs.ExactlyOne.{exactly-one}
 use Rattle.entry_values.specs.Keys.{publicKeyIn}
-use Rattle.passign.specs.Hiding.{Encodable, Library, anyLibrary, entries, Made, paramsOf, Accepted, OtherKey, Same, SaysYes, maskFor}
-use Rattle.passign.proofs.Follows.{Follows, any-follows, entries-follow}
+use Rattle.passign.specs.Hiding.{Encodable, Library, anyLibrary, ourLibrary, Made, paramsOf, Accepted, OtherKey, Same, SaysYes, maskFor, ExactlyOne}
+use Rattle.passign.proofs.ExactlyOne.{exactly-one}
+use Rattle.passign.proofs.Follows.{Follows, any-follows, our-library-follows}
 use Rattle.passign.proofs.OtherMask.{same-iff}
 
 -- the public key of the other key is that of the key that signed
@@ -39,12 +38,12 @@ module _ (set : ℕ → Params) (draw : Drawer) (m : Made) (e : Encodable draw (
   hiding-verdict = says-yes (any-follows m e accepted) other o
 
 -- the entries, in the five sets
-module _ (m : Made) (accepted : Accepted entries m) (other : List ℕ) (o : OtherKey entries m other) where
-  pub entry-hiding-exactly : (y : List ℤ) → Same entries m other y ↔ (y ≡ maskFor entries m other)
-  entry-hiding-exactly = same-iff (entries-follow m accepted) other o
+module _ (m : Made) (accepted : Accepted ourLibrary m) (other : List ℕ) (o : OtherKey ourLibrary m other) where
+  pub entry-hiding-exactly : (y : List ℤ) → Same ourLibrary m other y ↔ (y ≡ maskFor ourLibrary m other)
+  entry-hiding-exactly = same-iff (our-library-follows m accepted) other o
 
-  unfoldable pub entry-hiding : ExactlyOne (Same entries m other)
-  entry-hiding = exactly-one (maskFor entries m other) entry-hiding-exactly
+  unfoldable pub entry-hiding : ExactlyOne (Same ourLibrary m other)
+  entry-hiding = exactly-one (maskFor ourLibrary m other) entry-hiding-exactly
 
-  pub entry-hiding-verdict : SaysYes entries m other
-  entry-hiding-verdict = says-yes (entries-follow m accepted) other o
+  pub entry-hiding-verdict : SaysYes ourLibrary m other
+  entry-hiding-verdict = says-yes (our-library-follows m accepted) other o

@@ -8,9 +8,9 @@ use Prim.Native.Nat.{ℕ}
 use lib.IntN.{ℤ}
 use Rattle.parameters.specs.declared.Params.{Params}
 use Rattle.scheme.specs.Scheme.{Drawer}
-use Rattle.scheme.proofs.ExactlyOne.{exactly-one}
-use Rattle.passign.specs.Hiding.{Encodable, Library, anyLibrary, entries, Made, paramsOf, Accepted, Same, maskFor, Every, Each, Each₃, Hides, HidesExactly}
-use Rattle.passign.proofs.Follows.{Follows, any-follows, entries-follow}
+use Rattle.passign.specs.Hiding.{Encodable, Library, anyLibrary, ourLibrary, Made, paramsOf, Accepted, Same, maskFor, Every, Each, Each₃, Hides, HidesExactly}
+use Rattle.passign.proofs.ExactlyOne.{exactly-one}
+use Rattle.passign.proofs.Follows.{Follows, any-follows, our-library-follows}
 use Rattle.passign.proofs.OtherMask.{same-iff}
 use Rattle.passign.proofs.Hiding.{says-yes}
 
@@ -73,14 +73,14 @@ module _ (set : ℕ → Params) (draw : Drawer) (ms : List Made)
 
 -- ---- the entries `sign` and `check`, each signing in one of the five sets
 
-module _ (ms : List Made) (accepted : Every (Accepted entries) ms) where
-  pub entry-hiding-of-many : Hides entries ms
-  entry-hiding-of-many = hides entries ms (every-map entries-follow ms accepted)
+module _ (ms : List Made) (accepted : Every (Accepted ourLibrary) ms) where
+  pub entry-hiding-of-many : Hides ourLibrary ms
+  entry-hiding-of-many = hides ourLibrary ms (every-map our-library-follows ms accepted)
 
-  pub entry-hiding-of-many-exactly : HidesExactly entries ms
-  entry-hiding-of-many-exactly = hides-exactly entries ms (every-map entries-follow ms accepted)
+  pub entry-hiding-of-many-exactly : HidesExactly ourLibrary ms
+  entry-hiding-of-many-exactly = hides-exactly ourLibrary ms (every-map our-library-follows ms accepted)
 
 -- no signing: the empty list of masks, and no other
-pub no-signing : (l : Library) (ys : List (List ℤ)) → Each₃ (Same l) [] [] ys ↔ (ys ≡ [])
+pub no-mask-for-none : (l : Library) (ys : List (List ℤ)) → Each₃ (Same l) [] [] ys ↔ (ys ≡ [])
 unfolding zipWith
-no-signing l = hides-exactly l [] tt [] tt
+no-mask-for-none l = hides-exactly l [] tt [] tt

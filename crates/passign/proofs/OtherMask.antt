@@ -22,14 +22,16 @@ use Rattle.scheme.specs.Hiding.{Gives}
 use Rattle.scheme.proofs.Attempt.{attempt-iff}
 use Rattle.scheme.proofs.FirstPassing.{first-passing}
 use Rattle.scheme.proofs.Hiding as polynomials
-use Rattle.signer.specs.Signer.{masksOf, signatureOf, signedBy}
-use Rattle.entry_sign.specs.Sign.{areMasks, offeredCount}
+use Rattle.signer.specs.Signer.{offeredCount, masksOf, signatureOf, signedBy}
+use Rattle.signer.proofs.Masks.{masks-count, mask-at, mask-size}
+use Rattle.entry_sign.specs.Sign.{areMasks}
 use Rattle.entry_check.specs.Check.{signatureRead}
 use Rattle.passign.specs.Hiding.{Library, Made, paramsOf, signatureIn, OtherKey, Same, maskFor}
 use Rattle.entry_sign.proofs.Allowed.{sign-allowed}
-use Rattle.entry_sign.proofs.Masks.{masks-count, mask-at, mask-size, mask-alone}
+use Rattle.entry_sign.proofs.Masks.{mask-alone}
 use Rattle.layout.proofs.EncodedKey.{key-size, key-ternary}
 use Rattle.entry_sign.proofs.AcceptedSigning.{SignedAs, accepted-signing, signed-answer, signed-bytes, signing-of, allowed-of, size-of-key, commitment-of}
+use Rattle.passign.proofs.EncodableDraws.{encodable-draws}
 use Rattle.passign.proofs.AcceptedBytes.{meaning}
 use Rattle.passign.proofs.Follows.{Follows}
 
@@ -135,7 +137,7 @@ module _ {l : Library} {m : Made} (f : Follows l m) where
           let h : j < offeredCount p masks = omega (arith, masks-count p masks) in
           ap length (mask-at p masks j h) ∙ mask-size p masks j h in
           rw meant
-          (polynomials.hiding-exactly draw (f .encodable .sound) (f .encodable .draws) points message (keyOf (m .call .key)) (masksOf p masks) r (size-of-key a) sizes (signing-of a)
+          (polynomials.hiding-exactly draw (f .encodable .sound) (encodable-draws (f .encodable)) points message (keyOf (m .call .key)) (masksOf p masks) r (size-of-key a) sizes (signing-of a)
           (keyOf other) (key-size p other (o .size)) (key-ternary other (o .ternary)) (o .same) y)
 
   -- so it does exactly when it is z - other ⋆ c

@@ -10,19 +10,20 @@ use lib.ListN.{length}
 use Rattle.algebra.proofs.Test.{true-holds}
 use Rattle.algebra.specs.Integer.{within}
 use Rattle.parameters.specs.declared.Params.{Params}
-use Rattle.parameters.specs.Sets.{setOf}
 use Rattle.polynomial.specs.Polynomial.{point}
 use Rattle.polynomial.specs.Evaluation.{evaluations}
 use Rattle.challenge.specs.Draw.{drawChallenge}
 use Rattle.encoding.specs.Encoding.{keyOf}
 use Rattle.scheme.specs.Scheme.{Drawer, Draws}
 use Rattle.scheme.proofs.Range as polynomials
-use Rattle.answers.specs.Answer.{setByte}
-use Rattle.entry_sign.specs.Sign.{signRefusalIn, maskAt}
+use Rattle.signer.specs.Signer.{maskAt}
+use Rattle.answers.specs.Answer.{setByte, setIn}
+use Rattle.entry_sign.specs.Sign.{signRefusalIn}
 use Rattle.passign.specs.FirstPassing.{SignUnrefused}
 use Rattle.entry_sign.proofs.Allowed.{sign-allowed}
 use Rattle.entry_sign.proofs.Masks.{mask-small}
 use Rattle.layout.proofs.EncodedKey.{key-ternary}
+use Rattle.passign.proofs.EncodableDraws.{encodable-draws}
 use Rattle.passign.proofs.FiveSets.{set-encodable}
 
 pub range : {draw : Drawer} {p : Params} → Draws draw p → (key points : List ℕ) (masks : List ℤ) (message : List ℕ) (room : ℕ)
@@ -35,7 +36,7 @@ range {draw} {p} draws key points masks message room allowed i c e =
 
 -- the entry, in the five sets
 pub entry-range : (key points : List ℕ) (masks : List ℤ) (message out : List ℕ) → SignUnrefused key points masks message out
-    → (i : ℕ) (c : List ℤ) → drawChallenge (setOf (setByte key)) (evaluations (setOf (setByte key)) (maskAt (setOf (setByte key)) masks i) points) message ≡ some c
-    → T (within (setOf (setByte key) .k + setOf (setByte key) .b) (point (keyOf key) c (maskAt (setOf (setByte key)) masks i)))
+    → (i : ℕ) (c : List ℤ) → drawChallenge (setIn key) (evaluations (setIn key) (maskAt (setIn key) masks i) points) message ≡ some c
+    → T (within (setIn key .k + setIn key .b) (point (keyOf key) c (maskAt (setIn key) masks i)))
 entry-range key points masks message out u =
-    range (set-encodable (setByte key) (u .known .set) .draws) key points masks message (length out) (u .allowed)
+    range (encodable-draws (set-encodable (setByte key) (u .known .set))) key points masks message (length out) (u .allowed)

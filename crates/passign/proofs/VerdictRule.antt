@@ -7,13 +7,12 @@ use mathlib.Core.Logic.{_↔_, Iff·rfl, Iff·trans, Iff·and}
 use Prim.Native.Nat.{ℕ}
 use lib.Dec.{eqb}
 use Rattle.parameters.specs.declared.Params.{Params}
-use Rattle.parameters.specs.Sets.{setOf}
 use Rattle.challenge.specs.Draw.{drawChallenge}
 use Rattle.encoding.specs.Encoding.{pointsOf, evaluationsOf}
 use Rattle.scheme.specs.Scheme.{Drawer}
 use Rattle.scheme.proofs.Verdict.{verdict-true, verdict-false}
 use Rattle.answers.specs.declared.Verdict.the-variants as answer
-use Rattle.answers.specs.Answer.{setByte}
+use Rattle.answers.specs.Answer.{setIn}
 use Rattle.entry_check.specs.Check.{checkRefusalIn, signatureRead, checkVerdict, checkAnswerIn, checkAnswer}
 use Rattle.passign.specs.Known.{KnownBoth}
 use Rattle.passign.specs.VerdictRule.{Rule, CheckUnrefused}
@@ -43,18 +42,15 @@ module _ (draw : Drawer) (p : Params) (key message signature : List ℕ) where
 
 -- the entry, in the set of the key's first byte
 module _ (key message signature : List ℕ) where
-  abbrev in-set : Params
-  in-set = setOf (setByte key)
-
-  gathered : {P : Type 0} → (KnownBoth key message signature × ((checkRefusalIn in-set key signature ≡ 0) × P)) ↔ (CheckUnrefused key message signature × P)
+  gathered : {P : Type 0} → (KnownBoth key message signature × ((checkRefusalIn (setIn key) key signature ≡ 0) × P)) ↔ (CheckUnrefused key message signature × P)
   gathered = (λ h. (record { known = h .0; allowed = h .1 .0 }, h .1 .1), λ h. (h .0 .known, (h .0 .allowed, h .1)))
 
-  pub entry-verdict-yes : (checkAnswer key message signature ≡ answer.Yes) ↔ (CheckUnrefused key message signature × Rule drawChallenge in-set key message signature)
+  pub entry-verdict-yes : (checkAnswer key message signature ≡ answer.Yes) ↔ (CheckUnrefused key message signature × Rule drawChallenge (setIn key) key message signature)
   entry-verdict-yes =
       Iff·trans (check-entry refused-not-yes refused-not-yes key message signature)
-      (Iff·trans (Iff·and Iff·rfl (verdict-yes drawChallenge in-set key message signature)) gathered)
+      (Iff·trans (Iff·and Iff·rfl (verdict-yes drawChallenge (setIn key) key message signature)) gathered)
 
-  pub entry-verdict-no : (checkAnswer key message signature ≡ answer.No) ↔ (CheckUnrefused key message signature × (¬ Rule drawChallenge in-set key message signature))
+  pub entry-verdict-no : (checkAnswer key message signature ≡ answer.No) ↔ (CheckUnrefused key message signature × (¬ Rule drawChallenge (setIn key) key message signature))
   entry-verdict-no =
       Iff·trans (check-entry refused-not-no refused-not-no key message signature)
-      (Iff·trans (Iff·and Iff·rfl (verdict-no drawChallenge in-set key message signature)) gathered)
+      (Iff·trans (Iff·and Iff·rfl (verdict-no drawChallenge (setIn key) key message signature)) gathered)

@@ -8,13 +8,12 @@ use Prim.Native.Nat.{ℕ, _<_}
 use lib.IntN.{ℤ}
 use lib.ListN.{length, take}
 use Rattle.parameters.specs.declared.Params.{Params}
-use Rattle.parameters.specs.Sets.{setOf}
 use Rattle.encoding.specs.Encoding.{keyOf}
 use Rattle.scheme.specs.Scheme.{Drawer, Signature, attempt}
 use Rattle.scheme.specs.FirstPassing.{failures}
-use Rattle.signer.specs.Signer.{masksOf, signatureOf}
-use Rattle.answers.specs.Answer.{setByte}
-use Rattle.entry_sign.specs.Sign.{offeredCount, maskAt, signRefusalIn}
+use Rattle.signer.specs.Signer.{offeredCount, masksOf, maskAt, signatureOf}
+use Rattle.answers.specs.Answer.{setByte, setIn}
+use Rattle.entry_sign.specs.Sign.{signRefusalIn}
 use Rattle.passign.specs.Known.{Known}
 
 module _ (draw : Drawer) (p : Params) (key points : List ℕ) (masks : List ℤ) (message : List ℕ) where
@@ -33,8 +32,8 @@ module _ (draw : Drawer) (p : Params) (key points : List ℕ) (masks : List ℤ)
     pub earlier : (j : ℕ) → j < i → attemptAt j ≡ none
 
   -- no mask that is offered passes
-  abbrev pub NoMask : Type 0
-  NoMask = (j : ℕ) → j < offeredCount p masks → attemptAt j ≡ none
+  abbrev pub NonePasses : Type 0
+  NonePasses = (j : ℕ) → j < offeredCount p masks → attemptAt j ≡ none
 
   -- mask number i signs with these bytes: it is the first that passes, the number of masks before it is the count of those that fail, and the
   -- bytes are its signature's
@@ -47,4 +46,4 @@ module _ (draw : Drawer) (p : Params) (key points : List ℕ) (masks : List ℤ)
 -- nothing refuses a call of the entry: the set and the set's own tests
 pub record SignUnrefused (key points : List ℕ) (masks : List ℤ) (message out : List ℕ) : Type 0 where
   pub known : Known key message
-  pub allowed : signRefusalIn (setOf (setByte key)) key points masks (length out) ≡ 0
+  pub allowed : signRefusalIn (setIn key) key points masks (length out) ≡ 0

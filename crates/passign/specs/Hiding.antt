@@ -15,27 +15,26 @@ use Rattle.algebra.specs.Integer.{within}
 use Rattle.parameters.specs.declared.Params.{Params}
 use Rattle.parameters.specs.Sets.{setOf}
 use Rattle.parameters.specs.Sound.{Sound, Fitting}
-use Rattle.polynomial.specs.Polynomial.{sub, star, weight}
+use Rattle.polynomial.specs.Polynomial.{sub, star}
 use Rattle.polynomial.specs.Evaluation.{evaluations}
-use Rattle.challenge.specs.Draw.{drawChallenge}
+use Rattle.challenge.specs.Draw.{drawChallenge, Sparse}
 use Rattle.encoding.specs.Encoding.{secretKeySize, isKey, keyOf, publicKey}
-use Rattle.scheme.specs.Scheme.{Drawer, Draws, Signature}
-use Rattle.scheme.specs.Hiding.{ExactlyOne}
+use Rattle.scheme.specs.Scheme.{Drawer, Signature}
+use Rattle.signer.specs.Signer.{maskAt}
 use Rattle.answers.specs.declared.Signing.{Signing}
 use Rattle.answers.specs.declared.Signing.the-variants as signing
 use Rattle.answers.specs.declared.Verdict.{Verdict}
 use Rattle.answers.specs.declared.Verdict.the-variants as verdict
 use Rattle.answers.specs.Answer.{setByte}
-use Rattle.entry_sign.specs.Sign.{maskAt, signAnswerIn, signWrittenIn, signAnswer, signWritten}
+use Rattle.entry_sign.specs.Sign.{signAnswerIn, signWrittenIn, signAnswer, signWritten}
 use Rattle.entry_check.specs.Check.{signatureRead, checkAnswerIn, checkAnswer}
 
 -- what the theorems on bytes ask of a set and a way to draw: besides soundness that all has room in the encodings, and that a drawn
--- challenge has exactly b entries
+-- challenge is sparse
 pub record Encodable (draw : Drawer) (p : Params) : Type 0 where
   pub sound : Sound p
   pub fitting : Fitting p
-  pub draws : Draws draw p
-  pub exact : (w m : List ℕ) (c : List ℤ) → draw p w m ≡ some c → weight c ≡ p .b
+  pub draws : (w m : List ℕ) (c : List ℤ) → draw p w m ≡ some c → Sparse p c
 
 -- ---- a library of the scheme
 
@@ -78,9 +77,9 @@ anyLibrary set draw =
       checks = λ (key message signature : List ℕ). checkAnswerIn draw (set (setByte key)) key message signature;
     }
 
--- the entries `sign` and `check`
-abbrev pub entries : Library
-entries =
+-- our library: the entries `sign` and `check`
+abbrev pub ourLibrary : Library
+ourLibrary =
     record {
       set = setOf;
       draw = drawChallenge;
@@ -142,6 +141,12 @@ module _ (l : Library) (m : Made) where
   -- the mask that does it: the signature's z minus the product ⋆ of the other key and the signature's challenge
   abbrev pub maskFor : List ℕ → List ℤ
   maskFor other = sub (signatureIn .z) (star (keyOf other) (signatureIn .c))
+
+-- exactly one: it does, and whatever does is it
+pub record ExactlyOne {A : Type 0} (P : A → Type 0) : Type 0 where
+  pub it : A
+  pub does : P it
+  pub only : (a : A) → P a → a ≡ it
 
 -- ---- lists of signings
 

@@ -1,4 +1,5 @@
--- What `sign` and `check` test before the set: that the message is not too long, that the encodings are not empty, and their first bytes.
+-- What `sign` and `check` test before the set's own tests: that the message is not too long, that the encodings are not empty, and that the first byte
+-- is a set (of both encodings the same).
 -- Assumes nothing.
 use mathlib.Core.Path.{_≡_}
 use mathlib.Core.List.{List}

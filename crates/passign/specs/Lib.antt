@@ -1,3 +1,4 @@
+pub mod WorkedCases
 pub mod Known
 pub mod FirstPassing
 pub mod VerdictRule

@@ -4,11 +4,10 @@ use mathlib.Core.Path.{_≡_}
 use mathlib.Core.List.{List}
 use Prim.Native.Nat.{ℕ}
 use Rattle.parameters.specs.declared.Params.{Params}
-use Rattle.parameters.specs.Sets.{setOf}
 use Rattle.encoding.specs.Encoding.{pointsOf, evaluationsOf}
 use Rattle.scheme.specs.Scheme.{Drawer}
 use Rattle.scheme.specs.Verdict.{Valid}
-use Rattle.answers.specs.Answer.{setByte}
+use Rattle.answers.specs.Answer.{setIn}
 use Rattle.entry_check.specs.Check.{checkRefusalIn, signatureRead}
 use Rattle.passign.specs.Known.{KnownBoth}
 
@@ -19,4 +18,4 @@ Rule draw p key message signature = Valid draw p (pointsOf p key) message (evalu
 -- nothing refuses a call of the entry: the set and the set's own tests
 pub record CheckUnrefused (key message signature : List ℕ) : Type 0 where
   pub known : KnownBoth key message signature
-  pub allowed : checkRefusalIn (setOf (setByte key)) key signature ≡ 0
+  pub allowed : checkRefusalIn (setIn key) key signature ≡ 0

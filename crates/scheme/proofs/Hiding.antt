@@ -1,8 +1,7 @@
 -- Hiding: whatever signing accepts, every ternary key with the same public evaluations would have signed alike, by exactly one mask within k:
--- the signature's z minus the product of that key and the signature's challenge. And the check says yes under that key too.
+-- the signature's z minus the product of that key and the signature's challenge.
 -- Assumes nothing.
-use mathlib.Core.Path.{_≡_, sym, ap, _∙_, subst}
-use mathlib.Core.Bool.{true}
+use mathlib.Core.Path.{_≡_, sym, subst}
 use mathlib.Core.List.{List, []}
 use mathlib.Core.Logic.{_↔_}
 use mathlib.Core.Option.{some}
@@ -14,12 +13,10 @@ use Rattle.parameters.specs.declared.Params.{Params}
 use Rattle.parameters.specs.Sound.{Sound}
 use Rattle.polynomial.specs.Polynomial.{sub, star, ternary}
 use Rattle.polynomial.specs.Evaluation.{evaluations}
-use Rattle.scheme.specs.Scheme.{Drawer, Signed, Draws, signing, verdict}
-use Rattle.scheme.specs.Hiding.{ExactlyOne, Gives}
+use Rattle.scheme.specs.Scheme.{Drawer, Signed, Draws, signing}
+use Rattle.scheme.specs.Hiding.{Gives}
 use Rattle.scheme.proofs.Attempt.{attempt-iff}
 use Rattle.scheme.proofs.FirstPassing.{first-passing}
-use Rattle.scheme.proofs.Correctness.{correctness}
-use Rattle.scheme.proofs.ExactlyOne.{exactly-one}
 use Rattle.scheme.proofs.OtherMask.{other-only, other-gives}
 
 module _ (draw : Drawer) {p : Params} (sound : Sound p) (draws : Draws draw p) (points message : List ℕ)
@@ -39,12 +36,3 @@ module _ (draw : Drawer) {p : Params} (sound : Sound p) (draws : Draws draw p) (
         λ e. subst (Gives draw p points message h (r .commitment) (r .signature)) (sym e)
             (subst (λ (c : List ℕ). Gives draw p points message h c (r .signature) (sub (r .signature .z) (star h (r .signature .c)))) (w .commits) g),
       )
-
-  -- so exactly one mask does
-  unfoldable pub hiding : ExactlyOne (Gives draw p points message h (r .commitment) (r .signature))
-  hiding = exactly-one (sub (r .signature .z) (star h (r .signature .c))) hiding-exactly
-
-  -- and the check says yes to the signature under the public evaluations of h
-  pub hiding-verdict : verdict draw p points message (evaluations p h points) (r .signature) ≡ true
-  hiding-verdict =
-      ap (λ (vs : List ℕ). verdict draw p points message vs (r .signature)) same ∙ correctness draw sound points message f ys r size-f accepted

@@ -9,4 +9,3 @@ pub mod Attempt
 pub mod Commitment
 pub mod Search
 pub mod OtherMask
-pub mod ExactlyOne

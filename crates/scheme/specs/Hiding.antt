@@ -1,4 +1,4 @@
--- Demand 3 on polynomials: what it is for another mask to do what a signing did, and for exactly one to do so.
+-- Demand 3 on polynomials: what it is for another mask to do what a signing did.
 -- Assumes nothing.
 use mathlib.Core.Path.{_≡_}
 use mathlib.Core.List.{List, [], _∷_}
@@ -10,12 +10,6 @@ use lib.ListN.{length}
 use Rattle.algebra.specs.Integer.{within}
 use Rattle.parameters.specs.declared.Params.{Params}
 use Rattle.scheme.specs.Scheme.{Drawer, Signature, signing}
-
--- exactly one: it does, and whatever does is it
-pub record ExactlyOne {A : Type 0} (P : A → Type 0) : Type 0 where
-  pub it : A
-  pub does : P it
-  pub only : (a : A) → P a → a ≡ it
 
 -- the mask y is within k and, offered alone with the key f, gives this commitment and this signature
 pub record Gives (draw : Drawer) (p : Params) (points message : List ℕ) (f : List ℤ) (w : List ℕ) (s : Signature) (y : List ℤ) : Type 0 where

@@ -4,7 +4,7 @@
 use mathlib.Core.Path.{_≡_}
 use mathlib.Core.List.{List}
 use Prim.Native.Nat.{ℕ}
-use Rattle.passign.specs.Hiding.{entries, Accepted, Every, Hides, HidesExactly}
+use Rattle.passign.specs.Hiding.{ourLibrary, Accepted, Every, Hides, HidesExactly}
 use Rattle.session_rules.specs.Play.{opened}
 use Rattle.session_rules.specs.Plays.{signings, HidesNone}
 use Rattle.session_rules.proofs.HidingOfSessions.{signings-accepted, hiding-of-sessions, hiding-of-sessions-exactly, no-signing}
@@ -16,15 +16,15 @@ use Rattle.session.proofs.TurnsByRules.{turns-by-rules}
 -- any turns from a session just opened, each as the contract of `play` allows
 module _ (s : code.Session) (e : sessionOf s ≡ opened) (file : List ℕ) (ts : List Turn) (h : Turns s file ts) where
   -- each accepted 06 is a signing that the library accepts with what is read from the commands before it, and its row prints the bytes
-  pub signings-accepted-in-plays : Every (Accepted entries) (signings (turnEvents s file ts))
+  pub signings-accepted-in-plays : Every (Accepted ourLibrary) (signings (turnEvents s file ts))
   signings-accepted-in-plays = rw (turns-by-rules s e file ts h) (signings-accepted file (lentBy ts))
 
   -- for keys of equal public evaluations, one for each accepted 06, exactly one list of masks does the same, and the check says yes to each
-  pub hiding-of-plays : Hides entries (signings (turnEvents s file ts))
+  pub hiding-of-plays : Hides ourLibrary (signings (turnEvents s file ts))
   hiding-of-plays = rw (turns-by-rules s e file ts h) (hiding-of-sessions file (lentBy ts))
 
   -- for such keys, the masks that do the same are z - other ⋆ c of the signatures printed, and no others
-  pub hiding-of-plays-exactly : HidesExactly entries (signings (turnEvents s file ts))
+  pub hiding-of-plays-exactly : HidesExactly ourLibrary (signings (turnEvents s file ts))
   hiding-of-plays-exactly = rw (turns-by-rules s e file ts h) (hiding-of-sessions-exactly file (lentBy ts))
 
   -- where no 06 was accepted there is no signing, and so the empty list of masks

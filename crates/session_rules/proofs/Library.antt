@@ -27,10 +27,10 @@ use Rattle.encoding.specs.Encoding.{isKey, keyOf, publicKeySize, publicKey, Pub
 use Rattle.encoding.proofs.Range.{public-key-range}
 use Rattle.encoding.proofs.OneEncoding.{public-key-length, points-read-back, evaluations-read-back}
 use Rattle.scheme.specs.Scheme.{Signed}
-use Rattle.signer.specs.Signer.{signedBy}
+use Rattle.signer.specs.Signer.{maskAt, signedBy}
 use Rattle.answers.specs.declared.Signing.the-variants as signing
 use Rattle.answers.specs.declared.Verdict.the-variants as verdict
-use Rattle.entry_sign.specs.Sign.{areMasks, signRefusalIn, signedAnswer, signAnswerIn, signAnswer, maskAt}
+use Rattle.entry_sign.specs.Sign.{areMasks, signRefusalIn, signedAnswer, signAnswerIn, signAnswer}
 use Rattle.entry_check.specs.Check.{checkRefusalIn, checkVerdict, checkAnswerIn, checkAnswer}
 use Rattle.answers.proofs.Apart.{refused-same, refused-not-signed, refused-not-yes, refused-not-no}
 use Rattle.entry_sign.proofs.Allowed.{sign-allowed}

@@ -30,7 +30,7 @@ use Rattle.answers.specs.declared.Verdict.{Verdict}
 use Rattle.answers.specs.declared.Verdict.the-variants as verdict
 use Rattle.entry_sign.specs.Sign.{signAnswer, signWritten}
 use Rattle.entry_check.specs.Check.{checkAnswer}
-use Rattle.passign.specs.Hiding.{entries}
+use Rattle.passign.specs.Hiding.{ourLibrary}
 use Rattle.session_rules.specs.Held.{Chosen, Held, withMasks}
 use Rattle.session_rules.specs.Commands.{Payload, nothing, signed, Done, accepted, refused, needing, chooseSet, keyEvaluations, maskOf, signatureRoom, loadPoints, loadKey, loadMask, loadMessage, afterSigning, sign, afterCheck, check, loadEvaluations, needsSet, operandSizeIn, operandSize, commandIn, command}
 use Rattle.session_rules.specs.Rows.{decimal, hex, spaced, payloadText}
@@ -50,10 +50,10 @@ played b op n = record { byte = b; operand = op; number = n; buffer = [] }
 -- the library's signing with the material, its answer and its bytes
 module _ (t : Material) where
   abbrev pub answerWith : Signing
-  answerWith = entries .signs (callWith t)
+  answerWith = ourLibrary .signs (callWith t)
 
   abbrev pub bytesWith : List ℕ
-  bytesWith = entries .writes (callWith t)
+  bytesWith = ourLibrary .writes (callWith t)
 
   -- it accepts, by the first mask that passes, and the row has its bytes
   pub record SignedWith (x : Payload) : Type 0 where

@@ -18,11 +18,11 @@ use Rattle.signer.specs.Signer.{signatureOf}
 use Rattle.answers.specs.declared.Signing.the-variants as signing
 use Rattle.answers.specs.Answer.{setByte}
 use Rattle.passign.specs.Known.{Known}
-use Rattle.passign.specs.Hiding.{Call, entries}
+use Rattle.passign.specs.Hiding.{Call, ourLibrary}
 use Rattle.answers.proofs.Apart.{refused-not-signed}
 use Rattle.passign.proofs.Encoded as encoded-laws
 use Rattle.entry_sign.proofs.AcceptedSigning.{SignedAs, accepted-signing, signed-bytes}
-use Rattle.passign.proofs.AcceptedBytes.{writable}
+use Rattle.passign.proofs.AcceptedBytes.{signature-fits}
 use Rattle.passign.proofs.FiveSets.{set-encodable}
 use Rattle.passign.proofs.Entry.{sign-entry, written-entry}
 
@@ -32,7 +32,7 @@ signature-bytes-below set s h =
     and-intro (ltb set 256) (areBelow 256 (encoded 2 (entriesOf (s .c)) ++ encoded 2 (map bits16 (s .z)))) (lt→ltb set 256 h)
     (below-append (encoded 2 (entriesOf (s .c))) (encoded 2 (map bits16 (s .z))) (encoded-below 2 (entriesOf (s .c))) (encoded-below 2 (map bits16 (s .z))))
 
-module _ (call : Call) {i : ℕ} (e : entries .signs call ≡ signing.Signed i) where
+module _ (call : Call) {i : ℕ} (e : ourLibrary .signs call ≡ signing.Signed i) where
   -- the signature behind the bytes
   behind : Known (call .key) (call .message)
       × ((r : Signed) × SignedAs drawChallenge (setOf (setByte (call .key))) (call .key) (call .points) (call .masks) (call .message) (call .out) r i)
@@ -40,13 +40,13 @@ module _ (call : Call) {i : ℕ} (e : entries .signs call ≡ signing.Signed i) 
       let h = sign-entry refused-not-signed refused-not-signed (call .key) (call .points) (call .masks) (call .message) (call .out) .0 e in
       (h .0, accepted-signing drawChallenge (setOf (setByte (call .key))) (call .key) (call .points) (call .masks) (call .message) (call .out) (h .1))
 
-  written : entries .writes call ≡ signatureOf (setByte (call .key)) (behind .1 .0 .signature)
+  written : ourLibrary .writes call ≡ signatureOf (setByte (call .key)) (behind .1 .0 .signature)
   written = written-entry (call .key) (call .points) (call .masks) (call .message) (call .out) (behind .0) ∙ signed-bytes (behind .1 .1)
 
-  pub signature-size : length (entries .writes call) ≡ signatureSize (setOf (setByte (call .key)))
+  pub signature-size : length (ourLibrary .writes call) ≡ signatureSize (setOf (setByte (call .key)))
   signature-size =
       let encodable = set-encodable (setByte (call .key)) (behind .0 .set) in
-      ap length written ∙ encoded-laws.signature-size (encodable .fitting) (setByte (call .key)) (behind .1 .0 .signature) (writable (behind .1 .1) encodable)
+      ap length written ∙ encoded-laws.signature-size (encodable .fitting) (setByte (call .key)) (behind .1 .0 .signature) (signature-fits (behind .1 .1) encodable)
 
-  pub signature-below : T (areBelow 256 (entries .writes call))
+  pub signature-below : T (areBelow 256 (ourLibrary .writes call))
   signature-below = rw written (signature-bytes-below (setByte (call .key)) (behind .1 .0 .signature) (omega (arith, behind .0 .set)))

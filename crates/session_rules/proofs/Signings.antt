@@ -8,7 +8,7 @@ use lib.Dec.{T, eqb, eqb→eq}
 use borrow.Author.Tests.{not-true}
 use Rattle.algebra.specs.All.{all}
 use Rattle.algebra.proofs.Test.{and-left, and-right, holds-true, true-holds, pick-by}
-use Rattle.passign.specs.Hiding.{entries, Made, Accepted, Every}
+use Rattle.passign.specs.Hiding.{ourLibrary, Made, Accepted, Every}
 use Rattle.session_rules.specs.Commands.{Payload}
 use Rattle.session_rules.specs.Rows.{rowText, atFront}
 use Rattle.session_rules.specs.Play.{Session, step, Outcome, play}
@@ -22,7 +22,7 @@ use Rattle.session_rules.proofs.Reaching.{Reached, reached-step, reache
 
 -- an accepted 06, whose row stands at the front of the buffer
 accepted-with : (t : Material) (ordinal byte number : ℕ) (x : Payload) → SignedWith t x → (buffer : List ℕ)
-    → Accepted entries (madeWith t (atFront (rowText ordinal byte number x) buffer))
+    → Accepted ourLibrary (madeWith t (atFront (rowText ordinal byte number x) buffer))
 accepted-with t ordinal byte number x w buffer = record {
   answer = w .answer;
   bytes =
@@ -32,16 +32,16 @@ accepted-with t ordinal byte number x w buffer = record {
 
 -- the signings of one play, with those of the plays after it
 accepted-play : (t : Material) (av : Available) (s : Session) → Reached t av s → (file buffer : List ℕ) (more : List Event)
-    → Every (Accepted entries) (signingsFrom (materialAfter t (eventOf s file (play s file buffer))) more)
-    → Every (Accepted entries) (signingsFrom t (eventOf s file (play s file buffer) ++ more))
+    → Every (Accepted ourLibrary) (signingsFrom (materialAfter t (eventOf s file (play s file buffer))) more)
+    → Every (Accepted ourLibrary) (signingsFrom t (eventOf s file (play s file buffer) ++ more))
 unfolding materialAfter signingsFrom
 accepted-play t av s r file buffer more =
     play-by s file buffer
-    (λ (o : Outcome). Every (Accepted entries) (signingsFrom (materialAfter t (eventOf s file o)) more) → Every (Accepted entries) (signingsFrom t (eventOf s file o ++ more)))
+    (λ (o : Outcome). Every (Accepted ourLibrary) (signingsFrom (materialAfter t (eventOf s file o)) more) → Every (Accepted ourLibrary) (signingsFrom t (eventOf s file o ++ more)))
     (λ e rest. rest) (λ e rest. rest)
     (λ e g rest.
     let x = step s file in
-    pick-by (λ (l : List Made). Every (Accepted entries) (l ++ signingsFrom (materialAfter t (eventOf s file (written s file buffer))) more)) (eqb (x .byte) 6 && eqb (x .number) 0)
+    pick-by (λ (l : List Made). Every (Accepted ourLibrary) (l ++ signingsFrom (materialAfter t (eventOf s file (written s file buffer))) more)) (eqb (x .byte) 6 && eqb (x .number) 0)
     (λ y.
     let six = eqb→eq (x .byte) 6 (and-left (eqb (x .byte) 6) (eqb (x .number) 0) (true-holds y)) in
     let zero = eqb→eq (x .number) 0 (and-right (eqb (x .byte) 6) (eqb (x .number) 0) (true-holds y)) in
@@ -50,7 +50,7 @@ accepted-play t av s r file buffer more =
 
 -- the signings of a list of plays
 pub accepted-each : (t : Material) (av : Available) (s : Session) → Reached t av s → (file : List ℕ) (buffers : List (List ℕ))
-    → Every (Accepted entries) (signingsFrom t (eventsFrom s file buffers))
+    → Every (Accepted ourLibrary) (signingsFrom t (eventsFrom s file buffers))
 unfolding eventsFrom signingsFrom
 accepted-each t av s r file [] = tt
 accepted-each t av s r file (buffer ∷ buffers) =

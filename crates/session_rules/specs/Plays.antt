@@ -16,7 +16,7 @@ use Rattle.parameters.specs.Sets.{setOf}
 use Rattle.encoding.specs.Bytes.{numbers}
 use Rattle.answers.specs.declared.Signing.{Signing}
 use Rattle.answers.specs.declared.Signing.the-variants as signing
-use Rattle.passign.specs.Hiding.{Call, entries, Made, Same, Each₃}
+use Rattle.passign.specs.Hiding.{Call, ourLibrary, Made, Same, Each₃}
 use Rattle.session_rules.specs.Commands.{maskOf, signatureRoom}
 use Rattle.session_rules.specs.Play.{Session, opened, step, PlayAnswer, row, fault, over, Outcome, play}
 
@@ -99,7 +99,7 @@ module _ (m : Material) where
 
   -- how many masks are passed over before the first that passes, and so its number
   unfoldable pub firstPassing : ℕ
-  firstPassing = passedOver (m .masks) (entries .signs callWith)
+  firstPassing = passedOver (m .masks) (ourLibrary .signs callWith)
 
   -- the signing of an accepted 06: the first mask that passes signs, and the bytes are those that its row at the front of the buffer prints
   abbrev pub madeWith : List ℕ → Made
@@ -134,8 +134,8 @@ signingsFrom m (e ∷ es) = pick (isSigning e) (madeWith m (e .buffer) ∷ []) [
 unfoldable pub signings : List Event → List Made
 signings es = signingsFrom noMaterial es
 
--- demand 3 of commands that were played is `Hides entries (signings es)`. Where no 06 was accepted there is no signing, and so the empty list of masks
+-- demand 3 of commands that were played is `Hides ourLibrary (signings es)`. Where no 06 was accepted there is no signing, and so the empty list of masks
 abbrev pub HidesNone : List Event → Type 0
 HidesNone es =
     T (all (λ (e : Event). not (isSigning e)) es)
-    → (signings es ≡ []) × ((ys : List (List ℤ)) → Each₃ (Same entries) (signings es) [] ys ↔ (ys ≡ []))
+    → (signings es ≡ []) × ((ys : List (List ℤ)) → Each₃ (Same ourLibrary) (signings es) [] ys ↔ (ys ≡ []))

@@ -2,47 +2,10 @@
 -- and of the square roots of the first eight (5.3.5). Each is one test over the whole table, which antt computes.
 -- Assumes nothing.
 use mathlib.Core.Path.{_≡_, refl}
-use mathlib.Core.Bool.{Bool, true, false, _&&_}
-use mathlib.Core.List.{List, [], _∷_, _++_}
-use Prim.Native.Nat.{ℕ, zero, suc, _+_, _*_, _%_, _^_}
-use lib.Dec.{ltb, leb, eqb}
+use mathlib.Core.Bool.{true}
 use lib.ListN.{take}
-use Rattle.algebra.specs.Choice.{pick}
 use Rattle.sha512.specs.Constants.{K, H0}
-
--- no prime of the list divides n
-undivided : ℕ → List ℕ → Bool
-undivided n [] = true
-undivided n (p ∷ ps) = pick (eqb (n % p) 0) false (undivided n ps)
-
--- the primes below n, and n if none of them divides it
-withNext : ℕ → List ℕ → List ℕ
-withNext n ps = pick (undivided n ps) (ps ++ (n ∷ [])) ps
-
--- the primes among the n numbers from 2 on
-primesFromTwo : ℕ → List ℕ
-primesFromTwo zero = []
-primesFromTwo (suc n) = withNext (2 + n) (primesFromTwo n)
-
--- the first eighty primes, of which the last is 409
-primes : List ℕ
-primes = primesFromTwo 408
-
--- k is the fraction of the n-th root of p, to 64 bits, the root's whole part being r
-isRoot : ℕ → ℕ → ℕ → ℕ → Bool
-isRoot n p r k = leb ((r * 2 ^ 64 + k) ^ n) (p * 2 ^ (64 * n)) && ltb (p * 2 ^ (64 * n)) ((r * 2 ^ 64 + k + 1) ^ n)
-
--- one of the whole parts fits
-someRoot : ℕ → ℕ → ℕ → List ℕ → Bool
-someRoot n p k [] = false
-someRoot n p k (r ∷ rs) = pick (isRoot n p r k) true (someRoot n p k rs)
-
--- each number of the second list is the fraction of the n-th root of the number in its place in the first, and there are as many
-roots : ℕ → List ℕ → List ℕ → Bool
-roots n [] [] = true
-roots n [] (k ∷ ks) = false
-roots n (p ∷ ps) [] = false
-roots n (p ∷ ps) (k ∷ ks) = someRoot n p k (1 ∷ 2 ∷ 3 ∷ 4 ∷ 5 ∷ 6 ∷ 7 ∷ []) && roots n ps ks
+use Rattle.sha512.specs.Roots.{undivided, withNext, primesFromTwo, primes, isRoot, someRoot, roots}
 
 round-constants : roots 3 primes K ≡ true
 unfolding roots someRoot isRoot primes primesFromTwo withNext undivided K

@@ -18,8 +18,8 @@ use Rattle.polynomial.specs.Evaluation.{evaluations}
 use Rattle.polynomial.proofs.Bound.{within-mono}
 use Rattle.polynomial.proofs.Length.{length-point}
 use Rattle.challenge.specs.declared.Drawn.{Drawn}
-use Rattle.challenge.specs.Draw.{drawChallenge, drawnOf}
-use Rattle.challenge.proofs.Challenge.{Sparse, challenge-sparse}
+use Rattle.challenge.specs.Draw.{drawChallenge, Sparse, drawnOf}
+use Rattle.challenge.proofs.Challenge.{challenge-sparse}
 use Rattle.scheme.specs.Scheme.{signatureInRange, withChallenge, attempt}
 use Rattle.signer.specs.Signer.{Signable, Answerable, Writable}
 use Rattle.signer.proofs.EntryCount.{length-entries}

@@ -1,3 +1,4 @@
 pub mod EntryCount
 pub mod Answer
+pub mod Masks
 pub mod Offers

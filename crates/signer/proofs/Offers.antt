@@ -4,18 +4,18 @@ use mathlib.Core.Path.{_≡_, refl, sym, ap, ap₂, _∙_}
 use mathlib.Core.Bool.{true, false}
 use mathlib.Core.List.{List, _∷_}
 use mathlib.Core.Option.{Option, none, some}
-use Prim.Native.Nat.{ℕ, suc, _+_, _-_, _*_, _/_, _<_, _≤_}
-use native.Mathlib.Nat.{zero-mul, mul-le-mul-right, div-mul-le-self}
+use Prim.Native.Nat.{ℕ, suc, _+_, _-_, _*_, _<_, _≤_}
+use native.Mathlib.Nat.{zero-mul}
 use native.Mathlib.Numerals.{add-one}
 use native.Mathlib.Omega.{arith}
 use lib.IntN.{ℤ}
-use lib.ListN.{length, take, drop, length-drop}
-use lib.Seq.{drop-drop, length-take-le}
+use lib.ListN.{take, drop}
+use lib.Seq.{drop-drop}
 use Rattle.parameters.specs.declared.Params.{Params}
 use Rattle.polynomial.specs.Evaluation.{evaluations}
 use Rattle.encoding.specs.Bytes.{parts}
 use Rattle.scheme.specs.Scheme.{Drawer, Signature, Signed, orElse, attempt, signing}
-use Rattle.signer.specs.Signer.{passedOverIn, signedBytes, attemptBytes, passes, signedBy}
+use Rattle.signer.specs.Signer.{offeredCount, maskAt, signedBy, passedOverIn, signedBytes, attemptBytes, passes}
 
 -- one mask, where i were passed over before it and those after it give `rest`
 module _ (i : ℕ) (w : List ℕ) (rest : Option Signed) where
@@ -35,21 +35,6 @@ pub failing-bytes : (o : Option Signature) (set : ℕ) (out : List ℕ) → pass
 failing-bytes none set out e = refl
 failing-bytes (some s) set out e = let z : _≡_ {A = ℕ} 0 1 = cc in absurd (omega arith)
 
--- part number i, from its start to its end
-abbrev pub part : {A : Type 0} → ℕ → ℕ → List A → List A
-part size i l = take (i * size + size - i * size) (drop (i * size) l)
-
--- which a list of more than i parts has whole
-module _ {A : Type 0} (size i : ℕ) (l : List A) (h : i < length l / size) where
-  pub part-end : i * size + size ≤ length l
-  part-end =
-      let m : (i + 1) * size ≤ length l / size * size = mul-le-mul-right size (omega arith) in
-      omega (arith, div-mul-le-self (length l) size)
-
-  pub part-length : length (part size i l) ≡ size
-  part-length =
-      length-take-le (i * size + size - i * size) (drop (i * size) l) (omega (arith, part-end, length-drop (i * size) l)) ∙ omega arith
-
 -- the parts from number i on, and the first of them apart
 module _ {A : Type 0} (size count : ℕ) (l : List A) where
   abbrev partsFrom : ℕ → List (List A)
@@ -58,50 +43,49 @@ module _ {A : Type 0} (size count : ℕ) (l : List A) where
   parts-all : partsFrom 0 ≡ parts size count l
   parts-all = let e : count - 0 ≡ count = omega arith in ap₂ (λ (n at : ℕ). parts size n (drop at l)) e (zero-mul size)
 
-  parts-next : (i : ℕ) → i < count → partsFrom i ≡ part size i l ∷ partsFrom (i + 1)
+  parts-next : (i : ℕ) → i < count → partsFrom i ≡ take size (drop (i * size) l) ∷ partsFrom (i + 1)
   parts-next i h =
       let e : count - i ≡ suc (count - (i + 1)) = omega arith in
       let m : i * size + size ≡ (i + 1) * size = omega arith in
-      let w : size ≡ i * size + size - i * size = omega arith in
       ap (λ (n : ℕ). parts size n (drop (i * size) l)) e
-      ∙ ap₂ (λ (n : ℕ) (r : List A). take n (drop (i * size) l) ∷ parts size (count - (i + 1)) r) w
+      ∙ ap (λ (r : List A). take size (drop (i * size) l) ∷ parts size (count - (i + 1)) r)
       (drop-drop size (i * size) l ∙ ap (λ (at : ℕ). drop at l) m)
 
 module _ (draw : Drawer) (p : Params) (f : List ℤ) (points : List ℕ) (masks : List ℤ) (message : List ℕ) where
   -- what the masks from number i on give
   abbrev pub signedFrom : ℕ → Option Signed
-  signedFrom i = signing draw p points message i f (partsFrom (p .n) (length masks / p .n) masks i)
+  signedFrom i = signing draw p points message i f (partsFrom (p .n) (offeredCount p masks) masks i)
 
   pub signed-all : signedBy draw p f points masks message ≡ signedFrom 0
   unfolding signedBy
-  signed-all = ap (signing draw p points message 0 f) (sym (parts-all (p .n) (length masks / p .n) masks))
+  signed-all = ap (signing draw p points message 0 f) (sym (parts-all (p .n) (offeredCount p masks) masks))
 
-  pub signed-none : (i : ℕ) → length masks / p .n ≤ i → signedFrom i ≡ none
+  pub signed-none : (i : ℕ) → offeredCount p masks ≤ i → signedFrom i ≡ none
   signed-none i h =
-      let e : length masks / p .n - i ≡ 0 = omega arith in
+      let e : offeredCount p masks - i ≡ 0 = omega arith in
       ap (λ (n : ℕ). signing draw p points message i f (parts (p .n) n (drop (i * p .n) masks))) e
 
   -- what mask number i gives
   abbrev pub offer : ℕ → Option Signature
-  offer i = attempt draw p points message f (part (p .n) i masks)
+  offer i = attempt draw p points message f (maskAt p masks i)
 
   -- it signs, or the masks after it do
-  module _ (i : ℕ) (h : i < length masks / p .n) (e : signedBy draw p f points masks message ≡ signedFrom i) where
-    offered : signedBy draw p f points masks message ≡ orElse i (evaluations p (part (p .n) i masks) points) (offer i) (signedFrom (i + 1))
+  module _ (i : ℕ) (h : i < offeredCount p masks) (e : signedBy draw p f points masks message ≡ signedFrom i) where
+    offered : signedBy draw p f points masks message ≡ orElse i (evaluations p (maskAt p masks i) points) (offer i) (signedFrom (i + 1))
     offered =
-        e ∙ ap (signing draw p points message i f) (parts-next (p .n) (length masks / p .n) masks i h)
-        ∙ ap (λ (n : ℕ). orElse i (evaluations p (part (p .n) i masks) points) (offer i) (signing draw p points message n f (partsFrom (p .n) (length masks / p .n) masks (i + 1)))) (sym (add-one i))
+        e ∙ ap (signing draw p points message i f) (parts-next (p .n) (offeredCount p masks) masks i h)
+        ∙ ap (λ (n : ℕ). orElse i (evaluations p (maskAt p masks i) points) (offer i) (signing draw p points message n f (partsFrom (p .n) (offeredCount p masks) masks (i + 1)))) (sym (add-one i))
 
-    pub signed-here : passes (offer i) ≡ true → passedOverIn (length masks / p .n) (signedBy draw p f points masks message) ≡ i
+    pub signed-here : passes (offer i) ≡ true → passedOverIn (offeredCount p masks) (signedBy draw p f points masks message) ≡ i
     signed-here t =
-        ap (passedOverIn (length masks / p .n)) offered
-        ∙ passed-over i (evaluations p (part (p .n) i masks) points) (signedFrom (i + 1)) (offer i) (length masks / p .n) t
+        ap (passedOverIn (offeredCount p masks)) offered
+        ∙ passed-over i (evaluations p (maskAt p masks i) points) (signedFrom (i + 1)) (offer i) (offeredCount p masks) t
 
     pub bytes-here : (set : ℕ) (out : List ℕ) → passes (offer i) ≡ true
         → signedBytes set (signedBy draw p f points masks message) out ≡ attemptBytes set (offer i) out
     bytes-here set out t =
         ap (λ (r : Option Signed). signedBytes set r out) offered
-        ∙ passing-bytes i (evaluations p (part (p .n) i masks) points) (signedFrom (i + 1)) (offer i) set out t
+        ∙ passing-bytes i (evaluations p (maskAt p masks i) points) (signedFrom (i + 1)) (offer i) set out t
 
     pub signed-later : passes (offer i) ≡ false → signedBy draw p f points masks message ≡ signedFrom (i + 1)
-    signed-later t = offered ∙ failing i (evaluations p (part (p .n) i masks) points) (signedFrom (i + 1)) (offer i) t
+    signed-later t = offered ∙ failing i (evaluations p (maskAt p masks i) points) (signedFrom (i + 1)) (offer i) t

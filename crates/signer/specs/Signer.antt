@@ -7,7 +7,7 @@ use mathlib.Core.Option.{Option, none, some}
 use Prim.Native.Nat.{ℕ, _+_, _*_, _/_, _%_, _≤_}
 use lib.Dec.{T}
 use lib.IntN.{ℤ}
-use lib.ListN.{length}
+use lib.ListN.{length, take, drop}
 use Rattle.algebra.specs.Integer.{within}
 use Rattle.parameters.specs.declared.Params.{Params}
 use Rattle.parameters.specs.Sound.{Sound, Fitting, PowersOf}
@@ -18,9 +18,17 @@ use Rattle.encoding.specs.Challenge.{entriesOf}
 use Rattle.encoding.specs.Encoding.{signatureSize, signatureBytes}
 use Rattle.scheme.specs.Scheme.{Drawer, Signature, Signed, signing}
 
--- masks one after the other, N numbers each
+-- how many masks are offered that lie one after the other, N numbers each
+abbrev pub offeredCount : Params → List ℤ → ℕ
+offeredCount p masks = length masks / p .n
+
+-- all of them
 abbrev pub masksOf : Params → List ℤ → List (List ℤ)
-masksOf p masks = parts (p .n) (length masks / p .n) masks
+masksOf p masks = parts (p .n) (offeredCount p masks) masks
+
+-- mask number i of them
+abbrev pub maskAt : Params → List ℤ → ℕ → List ℤ
+maskAt p masks i = take (p .n) (drop (i * p .n) masks)
 
 -- the signature's bytes in the set s: of the challenge its entries
 unfoldable pub signatureOf : ℕ → Signature → List ℕ

@@ -10,7 +10,8 @@ use Rattle.challenge.specs.Draw.{drawChallenge}
 use Rattle.scheme.specs.Scheme.{Signed}
 use Rattle.signer.specs.Signer.{passedOverIn, attemptBytes, signedBytes, signedBy}
 use Rattle.signer.proofs.Answer.{one-mask}
-use Rattle.signer.proofs.Offers.{failing-bytes, part-end, part-length, signedFrom, signed-all, signed-none, offer, signed-here, bytes-here, signed-later}
+use Rattle.signer.proofs.Masks.{mask-end, mask-size, mask-between}
+use Rattle.signer.proofs.Offers.{failing-bytes, signedFrom, signed-all, signed-none, offer, signed-here, bytes-here, signed-later}
 use Rattle.signer.proofs.sign_first.Statement.{statement}
 use Rattle.signer.proofs.sign_first.Tie as tie
 
@@ -21,12 +22,12 @@ Inv-loop p powers set f points masks message out₀ n count i₀ out i =
 abbrev μ-loop : tie.MeasureT-loop
 μ-loop p powers set f points masks message out₀ n count i₀ out i = count - i
 
-mask-end : (c : tie.In-loop Inv-loop μ-loop) →
+end-in-masks : (c : tie.In-loop Inv-loop μ-loop) →
     let s = c .before .before .before .before .before .before in
     c .before .loop .i * s .args .p .n + s .args .p .n ≤ length (s .args .masks .now)
-mask-end c =
+end-in-masks c =
     let s = c .before .before .before .before .before .before in
-    part-end (s .args .p .n) (c .before .loop .i) (s .args .masks .now) (c .loop-test .taken)
+    mask-end (s .args .p) (s .args .masks .now) (c .before .loop .i) (c .loop-test .taken)
 
 div-count : tie.Need-div-count Inv-loop μ-loop
 div-count c = omega (arith, c .before .before .before .before .pre .fitting .points)
@@ -36,13 +37,13 @@ loop-holds c =
     let a = c .before .before .before .before .args in (zero-le, signed-all drawChallenge (a .p) (a .f .now) (a .points .now) (a .masks .now) (a .message .now), refl)
 
 mul-at : tie.Need-mul-at Inv-loop μ-loop
-mul-at c = omega (arith, mask-end c)
+mul-at c = omega (arith, end-in-masks c)
 
 add-to : tie.Need-add-to Inv-loop μ-loop
-add-to c = omega (arith, mask-end c)
+add-to c = omega (arith, end-in-masks c)
 
 mul-sign-with-mask : tie.Need-mul-sign-with-mask Inv-loop μ-loop
-mul-sign-with-mask c = omega (arith, mask-end c)
+mul-sign-with-mask c = omega (arith, end-in-masks c)
 
 sub-sign-with-mask : tie.Need-sub-sign-with-mask Inv-loop μ-loop
 sub-sign-with-mask c = omega arith
@@ -51,13 +52,14 @@ part-sign-with-mask-start : tie.Need-part-sign-with-mask-start Inv-loop μ-loop
 part-sign-with-mask-start c = omega arith
 
 part-sign-with-mask-end : tie.Need-part-sign-with-mask-end Inv-loop μ-loop
-part-sign-with-mask-end c = mask-end c
+part-sign-with-mask-end c = end-in-masks c
 
 sign-with-mask-requires : tie.Need-sign-with-mask-requires Inv-loop μ-loop
 sign-with-mask-requires c κs =
     let s = c .before .before .before .before .before .before .before .before in
     let l = c .before .before .before .loop in
-    let e = part-length (s .args .p .n) (l .i) (s .args .masks .now) (c .before .before .loop-test .taken) in
+    let m = s .args .masks .now in
+    let e = ap length (mask-between (s .args .p) m (l .i)) ∙ mask-size (s .args .p) m (l .i) (c .before .before .loop-test .taken) in
     (one-mask (s .pre) e (l .inv .2), e)
 
 same-length : tie.Need-same-length Inv-loop μ-loop
@@ -68,7 +70,7 @@ returns c =
     let a = c .before .before .before .before .before .before .before .before .before .before .before .before .args in
     let l = c .before .before .before .before .before .before .before .loop in
     let h = c .before .before .before .before .before .before .loop-test .taken in
-    let r = c .before .before .before .sign-with-mask .ensures in
+    let r = rw (mask-between (a .p) (a .masks .now) (l .i)) at (c .before .before .before .sign-with-mask .ensures) in
     let t = sym (r .0) ∙ c .if1 .taken in (
       sym (signed-here drawChallenge (a .p) (a .f .now) (a .points .now) (a .masks .now) (a .message .now) (l .i) h (l .inv .1) t),
       r .1 ∙ ap (attemptBytes (a .set) (offer drawChallenge (a .p) (a .f .now) (a .points .now) (a .masks .now) (a .message .now) (l .i))) (l .inv .2)
@@ -88,7 +90,7 @@ loop-again c =
     let a = c .before .before .before .before .before .before .before .before .before .before .before .before .args in
     let l = c .before .before .before .before .before .before .before .loop in
     let h = c .before .before .before .before .before .before .loop-test .taken in
-    let r = c .before .before .before .sign-with-mask .ensures in
+    let r = rw (mask-between (a .p) (a .masks .now) (l .i)) at (c .before .before .before .sign-with-mask .ensures) in
     let t = sym (r .0) ∙ c .if1 .left in (
       omega arith,
       signed-later drawChallenge (a .p) (a .f .now) (a .points .now) (a .masks .now) (a .message .now) (l .i) h (l .inv .1) t,
