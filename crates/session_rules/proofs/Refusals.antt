@@ -13,9 +13,9 @@ use lib.ListN.{length, drop, length-append, length-drop}
 use borrow.Author.Tests.{ne-eqb}
 use Rattle.algebra.proofs.Test.{pick-by}
 use Rattle.session_rules.specs.Held.{Held}
-use Rattle.session_rules.specs.Play.{Session, step, row, answerNumber, Outcome, rowOf, play}
+use Rattle.session_rules.specs.Play.{Session, step, row, answerNumber, Outcome, rowOf, faulty, late, play}
 use Rattle.session_rules.specs.After.{Reachable}
-use Rattle.session_rules.specs.Refusals.{isEnding, faulty, late, RowWritten}
+use Rattle.session_rules.specs.Refusals.{isEnding, RowWritten}
 use Rattle.session_rules.proofs.After.{written-by}
 use Rattle.session_rules.proofs.Moving.{moves}
 use Rattle.session_rules.proofs.Reaching.{reached, reached-step}
@@ -42,6 +42,7 @@ row-written {s} r file buffer n =
           (pick-by (λ (p : ℕ). step s file .session .place ≡ p) (isEnding n) (λ e. m .stays (ends ∙ e) .0) (λ e. refl))
           (pick-by (λ (r : ℕ). step s file .session .rows ≡ r) (isEnding n) (λ e. m .stays (ends ∙ e) .1) (λ e. m .counts (ends ∙ e)))
           (rw (← same) (x .leaves refused));
+      forward = m .forward;
       alone = λ z. x .alone (λ y. z (sym same ∙ y));
       accepted-ends = λ z. x .accepted-ends (same ∙ z);
       buffer-is = refl;
