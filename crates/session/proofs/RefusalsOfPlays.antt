@@ -1,5 +1,6 @@
 -- Demand 1 of the code itself: any session that plays lead to, as the contracts of `open` and `play` allow. A play that answers a row with number n is as
--- `RowWritten` says: what a refusal leaves, what it has, which commands end the session, and that the buffer is the row and the bytes that were behind it.
+-- `RowWritten` says: what a refusal leaves, what it has, which commands end the session, that the place moves forward where none does, and that the
+-- buffer is the row and the bytes that were behind it.
 -- Assumes nothing.
 use mathlib.Core.Path.{_≡_, sym, ap, subst, _∙_}
 use mathlib.Core.List.{List, [], _∷_}

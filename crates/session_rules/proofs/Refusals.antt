@@ -1,7 +1,7 @@
 -- Demand 1 over plays, for every session that plays lead to and whatever file each play is lent. A refused command changes nothing of what is held, save
 -- that 9 drops all masks; of the rest it changes only the place and the row count, and for 1, 3, 13, 14, 15 and 16 only the end. An accepted command ends
--- the session just where it is 00. A play that writes a row leaves the bytes behind it, and the row fits its buffer. A play with a wrong row buffer, which is
--- refusal 1, or after the end changes nothing and writes nothing.
+-- the session just where it is 00. Where a row does not end the session, the place moves forward inside the file. A play that writes a row leaves the bytes
+-- behind it, and the row fits its buffer. A play with a wrong row buffer, which is refusal 1, or after the end changes nothing and writes nothing.
 -- Assumes nothing.
 use mathlib.Core.Path.{_≡_, refl, sym, ap, _∙_}
 use mathlib.Core.Bool.{Bool, true}

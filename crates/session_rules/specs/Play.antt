@@ -55,7 +55,7 @@ module _ (file : List ℕ) (at : ℕ) where
     abbrev pub sizeDue : ℕ
     sizeDue = operandSize set byteDue
 
-    -- the refusal that ends the session at the command due, or 0: 13 where the file ends; 14, 3, 13 inside an operand
+    -- the refusal that ends the session where a command is due, or 0: 13 where the file ends, 14, 3, 13 inside the operand
     unfoldable pub refusalDue : ℕ
     refusalDue =
         pick (leb (length file) at) 13
@@ -105,7 +105,7 @@ module _ (s : Session) where
     abbrev pub goingCommand : ℕ → Step
     goingCommand size = goesOn (at + 1 + size) (byteDue file at) (operandDue file at size) (command (s .held) (byteDue file at) (operandDue file at size))
 
-    -- the command due at a place: the refusal that is due ends the session; where none is, the command is played
+    -- the command due at a place: a refusal that is due ends the session, and prints the byte due; else 00 or any other is played
     unfoldable pub commandStep : Step
     commandStep =
         pick (not (eqb (refusalDue file at (s .held .set)) 0)) (endsAt (byteDue file at) (refusalDue file at (s .held .set)))

@@ -19,7 +19,8 @@ isEnding n = eqb n 1 || (eqb n 3 || (leb 13 n && leb n 16))
 pub record RowWritten (s : Session) (file buffer : List ℕ) (n : ℕ) (o : Outcome) : Type 0 where
   -- the row prints the number that is answered
   pub number : step s file .number ≡ n
-  -- a refusal that ends the session leaves all else; any other counts its row and leaves what is held, save that 9 drops all masks (its place: `forward`)
+  -- a refusal that ends the session leaves all else; any other moves the place as `forward` says, counts its row and leaves what is held, save that 9
+  -- drops all masks
   pub rest : (n ≡ 0 → ⊥) → o .session ≡ record {
     ended = isEnding n;
     place = pick (isEnding n) (s .place) (o .session .place);
