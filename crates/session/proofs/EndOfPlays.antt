@@ -8,16 +8,15 @@ use Prim.Native.Nat.{ℕ, _+_, _≤_}
 use lib.Dec.{T}
 use lib.ListN.{length, length-map}
 use Rattle.algebra.specs.All.{all}
-use Rattle.session_rules.specs.Play.{Session, opened}
-use Rattle.session_rules.specs.After.{isRight}
+use Rattle.session_rules.specs.Play.{Session, opened, isRight}
 use Rattle.session_rules.proofs.EveryFileEnds.{every-file-ends}
 use Rattle.session.specs.declared.Session as code
 use Rattle.session.specs.Session.{sessionOf}
-use Rattle.session.specs.Turns.{Turn, Turns, lentBy, lastOf}
+use Rattle.session.specs.Turns.{Turn, Turns, lentBy, lastSession}
 use Rattle.session.proofs.TurnsByRules.{turns-after}
 
 pub every-file-ends-in-plays : (s : code.Session) → sessionOf s ≡ opened → (file : List ℕ) (ts : List Turn) → Turns s file ts
-    → T (all isRight (lentBy ts)) → length file + 1 ≤ length ts → lastOf s ts .ended ≡ true
+    → T (all isRight (lentBy ts)) → length file + 1 ≤ length ts → lastSession s ts .ended ≡ true
 unfolding sessionOf
 every-file-ends-in-plays s e file ts h right enough =
     ap (λ (r : Session). r .ended) (turns-after s e file ts h)

@@ -6,7 +6,7 @@ use mathlib.Core.List.{List}
 use Prim.Native.Nat.{ℕ}
 use Rattle.passign.specs.Hiding.{ourLibrary, Accepted, Every, Hides, HidesExactly}
 use Rattle.session_rules.specs.Play.{opened}
-use Rattle.session_rules.specs.Plays.{signings, HidesNone}
+use Rattle.session_rules.specs.Plays.{signings, NoneSigned}
 use Rattle.session_rules.proofs.HidingOfSessions.{signings-accepted, hiding-of-sessions, hiding-of-sessions-exactly, no-signing}
 use Rattle.session.specs.declared.Session as code
 use Rattle.session.specs.Session.{sessionOf}
@@ -28,5 +28,5 @@ module _ (s : code.Session) (e : sessionOf s ≡ opened) (file : List ℕ) (ts :
   hiding-of-plays-exactly = rw (turns-by-rules s e file ts h) (hiding-of-sessions-exactly file (lentBy ts))
 
   -- where no 06 was accepted there is no signing, and so the empty list of masks
-  pub no-signing-in-plays : HidesNone (turnEvents s file ts)
+  pub no-signing-in-plays : NoneSigned (turnEvents s file ts)
   no-signing-in-plays = rw (turns-by-rules s e file ts h) (no-signing file (lentBy ts))

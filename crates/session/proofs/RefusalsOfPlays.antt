@@ -1,5 +1,6 @@
 -- Demand 1 of the code itself: any session that plays lead to, as the contracts of `open` and `play` allow. A play that answers a row with number n is as
--- `RowWritten` says: what a refusal leaves, what it has, which commands end the session, and that the buffer is the row and the bytes that were behind it.
+-- `RowWritten` says: what a refusal leaves, what it has, which commands end the session, that the place moves forward where none does, and that the
+-- buffer is the row and the bytes that were behind it.
 -- Assumes nothing.
 use mathlib.Core.Path.{_≡_, sym, ap, subst, _∙_}
 use mathlib.Core.List.{List, [], _∷_}
@@ -11,11 +12,11 @@ use Rattle.session_rules.proofs.Refusals.{row-written}
 use Rattle.session.specs.declared.Session as code
 use Rattle.session.specs.declared.Answer.the-variants as answers
 use Rattle.session.specs.Session.{sessionOf, playAnswerOf, outcomeOf}
-use Rattle.session.specs.Turns.{Turn, Turns, lastOf}
+use Rattle.session.specs.Turns.{Turn, Turns, lastSession}
 
 -- plays lead from sessions that plays lead to, to such sessions: of one file, and so of one file after another
-pub reachable-by-plays : (s : code.Session) → Reachable (sessionOf s) → (file : List ℕ) (ts : List Turn) → Turns s file ts → Reachable (sessionOf (lastOf s ts))
-unfolding lastOf
+pub reachable-by-plays : (s : code.Session) → Reachable (sessionOf s) → (file : List ℕ) (ts : List Turn) → Turns s file ts → Reachable (sessionOf (lastSession s ts))
+unfolding lastSession
 reachable-by-plays s r file [] h = r
 reachable-by-plays s r file (t ∷ ts) h =
     reachable-by-plays (t .gave .session) (subst Reachable (sym (ap (λ (o : Outcome). o .session) (h .0))) (once-more r file (t .lent))) file ts (h .1)

@@ -1,7 +1,7 @@
--- The row count that a session means: one less than the place is kept, and the next ordinal is at most the place of a command due.
+-- The row count that a session means: a count below the place is kept, and the next ordinal is at most the place of a command due.
 -- Assumes nothing.
 use mathlib.Core.Path.{_≡_}
-use Prim.Native.Nat.{ℕ, _+_, _-_, _≤_, _<_}
+use Prim.Native.Nat.{ℕ, _+_, _≤_, _<_}
 use native.Mathlib.Omega.{arith}
 use lib.Dec.{ltb}
 use borrow.Author.Tests.{lt-ltb, ltb-true}

@@ -10,7 +10,7 @@ use Rattle.session_rules.specs.Plays.{Event, eventOf, eventsFrom, events}
 use Rattle.session_rules.specs.After.{after}
 use Rattle.session.specs.declared.Session as code
 use Rattle.session.specs.Session.{sessionOf}
-use Rattle.session.specs.Turns.{Turn, Turns, lentBy, lastOf, turnEvents}
+use Rattle.session.specs.Turns.{Turn, Turns, lentBy, lastSession, turnEvents}
 
 by-rules : (s : code.Session) (file : List ℕ) (ts : List Turn) → Turns s file ts → turnEvents s file ts ≡ eventsFrom (sessionOf s) file (lentBy ts)
 unfolding turnEvents eventsFrom
@@ -24,11 +24,11 @@ pub turns-by-rules : (s : code.Session) → sessionOf s ≡ opened → (file : L
 unfolding events
 turns-by-rules s e file ts h = by-rules s file ts h ∙ ap (λ (r : Session). eventsFrom r file (lentBy ts)) e
 
-after-from : (s : code.Session) (file : List ℕ) (ts : List Turn) → Turns s file ts → sessionOf (lastOf s ts) ≡ after (sessionOf s) file (lentBy ts)
-unfolding lastOf after
+after-from : (s : code.Session) (file : List ℕ) (ts : List Turn) → Turns s file ts → sessionOf (lastSession s ts) ≡ after (sessionOf s) file (lentBy ts)
+unfolding lastSession after
 after-from s file [] h = refl
 after-from s file (t ∷ ts) h = after-from (t .gave .session) file ts (h .1) ∙ ap (λ (o : Outcome). after (o .session) file (lentBy ts)) (h .0)
 
 -- the session after them
-pub turns-after : (s : code.Session) → sessionOf s ≡ opened → (file : List ℕ) (ts : List Turn) → Turns s file ts → sessionOf (lastOf s ts) ≡ after opened file (lentBy ts)
+pub turns-after : (s : code.Session) → sessionOf s ≡ opened → (file : List ℕ) (ts : List Turn) → Turns s file ts → sessionOf (lastSession s ts) ≡ after opened file (lentBy ts)
 turns-after s e file ts h = after-from s file ts h ∙ ap (λ (r : Session). after r file (lentBy ts)) e

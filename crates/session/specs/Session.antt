@@ -1,16 +1,13 @@
 -- What a session of the code means, and what a play of it gives, held against the definitions of crate session_rules.
 -- Assumes nothing.
 use mathlib.Core.Path.{_≡_}
-use mathlib.Core.Bool.{not, _&&_}
 use mathlib.Core.List.{List}
-use Prim.Native.Nat.{ℕ, _+_, _-_}
-use lib.Dec.{ltb, leb}
-use lib.ListN.{length, getD}
+use Prim.Native.Nat.{ℕ, _-_}
+use lib.Dec.{ltb}
 use Rattle.algebra.specs.Choice.{pick}
-use Rattle.session_rules.specs.Commands.{isKnown, needsSet, operandSize}
-use Rattle.session_rules.specs.Play.{Session, Step, PlayAnswer, row, fault, over, Outcome, lacksSet, rowOf}
+use Rattle.session_rules.specs.Play.{Session, Step, PlayAnswer, row, fault, over, Outcome, rowOf}
 use Rattle.session_rules.specs.Rows.{atFront}
-use Rattle.session_state.specs.State.{setHeld, heldOf}
+use Rattle.session_state.specs.State.{heldOf}
 use Rattle.session.specs.declared.Session as code
 use Rattle.session.specs.declared.Answer as answer
 use Rattle.session.specs.declared.Answer.the-variants as answers
@@ -39,11 +36,3 @@ pub record Took (t : Step) (r : Taken) (old new : List ℕ) : Type 0 where
   pub session : sessionOf (r .session) ≡ t .session
   pub number : r .number ≡ t .number
   pub row : new ≡ atFront (rowOf t) old
-
--- the refusal that ends the session where a command is due, or 0
-unfoldable pub refusalDue : List ℕ → ℕ → ℕ → ℕ
-refusalDue file at set =
-    pick (leb (length file) at) 13
-    (pick (not (isKnown (getD file at 0))) 14
-    (pick (needsSet (getD file at 0) && lacksSet (setHeld set)) 3
-    (pick (ltb (length file) (at + 1 + operandSize (setHeld set) (getD file at 0))) 13 0)))

@@ -25,9 +25,9 @@ abbrev pub lentBy : List Turn → List (List ℕ)
 lentBy ts = map (λ (t : Turn). t .lent) ts
 
 -- the session that the last turn returned
-unfoldable pub lastOf : code.Session → List Turn → code.Session
-lastOf s [] = s
-lastOf s (t ∷ ts) = lastOf (t .gave .session) ts
+unfoldable pub lastSession : code.Session → List Turn → code.Session
+lastSession s [] = s
+lastSession s (t ∷ ts) = lastSession (t .gave .session) ts
 
 -- the commands that the turns played, with the answers that they gave and the row buffers that they left
 unfoldable pub turnEvents : code.Session → List ℕ → List Turn → List Event

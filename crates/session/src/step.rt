@@ -6,7 +6,8 @@ ghost use lib.Dec.{eqb};
 ghost use lib.ListN.{length, getD};
 ghost use Rattle.algebra.specs.Choice.{pick};
 ghost use Rattle.session_rules.specs.Play as rules;
-ghost use Rattle.session.specs.Session.{rowsOf, sessionOf, refusalDue, Took};
+ghost use Rattle.session_state.specs.State.{setHeld};
+ghost use Rattle.session.specs.Session.{rowsOf, sessionOf, Took};
 use crate::Session;
 use session_commands::running::operand_size;
 use session_commands::running::run;
@@ -51,7 +52,7 @@ fn byte_at(file: &[u8], at: usize) -> u8
 
 // The refusal that ends the session where a command is due, or 0: 13 at the file's end, 14, 3, 13 inside the operand.
 fn refusal_due(file: &[u8], at: usize, set: u8) -> u32
-    ensures { λ r. ⌜ r ≡ refusalDue (now (file .entry)) at set ⌝ }
+    ensures { λ r. ⌜ r ≡ rules.refusalDue (now (file .entry)) at (setHeld set) ⌝ }
 {
     let size = file.len();
     if size <= at {
@@ -82,7 +83,7 @@ fn end_number(file: &[u8], next: usize) -> u32
 fn go_on(s: Session, file: &[u8], at: usize, ordinal: usize, rows: &mut [u8]) -> Taken
     requires { ⌜ length (now rows) ≡ 16384 ⌝ }
     requires { ⌜ s .ended ≡ false ⌝ }
-    requires { ⌜ refusalDue (now file) at (s .held .set) ≡ 0 ⌝ }
+    requires { ⌜ rules.refusalDue (now file) at (setHeld (s .held .set)) ≡ 0 ⌝ }
     requires { ⌜ 0 < getD (now file) at 0 ⌝ }
     requires { ⌜ ordinal ≡ rowsOf (s .rows) (s .place) + 1 ⌝ }
     requires { ⌜ ordinal ≤ at ⌝ }

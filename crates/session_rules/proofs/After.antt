@@ -5,33 +5,26 @@ use mathlib.Core.Bool.{true, false, not}
 use mathlib.Core.List.{List}
 use Prim.Native.Nat.{ℕ}
 use native.Mathlib.Omega.{arith}
-use lib.Dec.{eqb}
 use lib.ListN.{length}
 use borrow.Author.Tests.{eqb-true, eqb-false, not-true, not-false}
 use Rattle.algebra.proofs.Test.{pick-by}
-use Rattle.session_rules.specs.Rows.{atFront}
-use Rattle.session_rules.specs.Play.{Session, step, row, Outcome, rowOf, play}
-use Rattle.session_rules.specs.Refusals.{faulty, late}
+use Rattle.session_rules.specs.Play.{Session, step, row, Outcome, isRight, faulty, late, written, play}
 
 module _ (s : Session) (file buffer : List ℕ) where
-  -- the outcome of a play that writes a row
-  abbrev pub written : Outcome
-  written = record { session = step s file .session; answer = row (step s file .number); buffer = atFront (rowOf (step s file)) buffer }
-
   -- a claim about a play, by its three cases
   pub play-by : (P : Outcome → Type 0) → ((length buffer ≡ 16384 → ⊥) → P (faulty s buffer)) → (s .ended ≡ true → P (late s buffer))
-      → (length buffer ≡ 16384 → s .ended ≡ false → P written) → P (play s file buffer)
+      → (length buffer ≡ 16384 → s .ended ≡ false → P (written s file buffer)) → P (play s file buffer)
   unfolding play
   play-by P wrong ended right =
-      pick-by P (not (eqb (length buffer) 16384)) (λ t. wrong (eqb-false (length buffer) 16384 (not-true (eqb (length buffer) 16384) t)))
-      (λ t. pick-by P (s .ended) ended (right (eqb-true (length buffer) 16384 (not-false (eqb (length buffer) 16384) t))))
+      pick-by P (not (isRight buffer)) (λ t. wrong (eqb-false (length buffer) 16384 (not-true (isRight buffer) t)))
+      (λ t. pick-by P (s .ended) ended (right (eqb-true (length buffer) 16384 (not-false (isRight buffer) t))))
 
-  pub play-written : length buffer ≡ 16384 → s .ended ≡ false → play s file buffer ≡ written
+  pub play-written : length buffer ≡ 16384 → s .ended ≡ false → play s file buffer ≡ written s file buffer
   unfolding play
   play-written h e = rw (h, e)
 
   -- a claim about a play that wrote a row with number n
-  pub written-by : (P : Outcome → Type 0) (n : ℕ) → (length buffer ≡ 16384 → s .ended ≡ false → step s file .number ≡ n → P written)
+  pub written-by : (P : Outcome → Type 0) (n : ℕ) → (length buffer ≡ 16384 → s .ended ≡ false → step s file .number ≡ n → P (written s file buffer))
       → play s file buffer .answer ≡ row n → P (play s file buffer)
   written-by P n right =
       play-by (λ (o : Outcome). o .answer ≡ row n → P o) (λ h e. let z : _≡_ {A = ℕ} 0 1 = cc in absurd (omega arith))

@@ -9,8 +9,8 @@ use lib.Dec.{T, eqb→eq}
 use lib.ListN.{length}
 use Rattle.algebra.specs.All.{all}
 use Rattle.algebra.proofs.Test.{and-left, and-right, by-test}
-use Rattle.session_rules.specs.Play.{Session, Outcome, play}
-use Rattle.session_rules.specs.After.{isRight, after}
+use Rattle.session_rules.specs.Play.{Session, Outcome, isRight, play}
+use Rattle.session_rules.specs.After.{after}
 use Rattle.session_rules.proofs.After.{play-by}
 use Rattle.session_rules.proofs.Moving.{moves}
 

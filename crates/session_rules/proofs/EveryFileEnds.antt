@@ -12,8 +12,8 @@ use lib.Dec.{T}
 use lib.ListN.{length}
 use Rattle.algebra.specs.All.{all}
 use Rattle.algebra.proofs.Test.{by-test}
-use Rattle.session_rules.specs.Play.{Session, opened, play}
-use Rattle.session_rules.specs.After.{isRight, after}
+use Rattle.session_rules.specs.Play.{Session, opened, isRight, play}
+use Rattle.session_rules.specs.After.{after}
 use Rattle.session_rules.proofs.Ending.{moves-on, ends-from}
 
 pub every-file-ends : (file : List ℕ) (buffers : List (List ℕ)) → T (all isRight buffers) → length file + 1 ≤ length buffers → after opened file buffers .ended ≡ true

@@ -17,24 +17,24 @@ use Rattle.session_rules.specs.HeldIsRead.{Available, Holding}
 abbrev pub isMask : Params → List ℤ → Bool
 isMask p y = eqb (length y) (p .n) && within (p .k) y
 
-pub record ArePoints (p : Params) (l : List ℕ) : Type 0 where
+pub record PointsFit (p : Params) (l : List ℕ) : Type 0 where
   pub size : length l ≡ p .t
   pub rise : arePoints p l ≡ true
 
-pub record IsKey (p : Params) (l : List ℕ) : Type 0 where
+pub record KeyFits (p : Params) (l : List ℕ) : Type 0 where
   pub size : length l ≡ p .n
   pub bytes : all isKeyByte l ≡ true
 
-pub record AreEvaluations (p : Params) (l : List ℕ) : Type 0 where
+pub record EvaluationsFit (p : Params) (l : List ℕ) : Type 0 where
   pub size : length l ≡ p .t
   pub below : areEvaluations p l ≡ true
 
 -- everything held, in the set p
 pub record Fits (p : Params) (a : Available) (h : Held) : Type 0 where
   pub set : Holding (λ (c : Chosen). c .byte < 5) (a .set) (h .set)
-  pub points : Holding (ArePoints p) (a .points) (h .points)
-  pub key : Holding (IsKey p) (a .key) (h .key)
-  pub evaluations : Holding (AreEvaluations p) (a .evaluations) (h .evaluations)
+  pub points : Holding (PointsFit p) (a .points) (h .points)
+  pub key : Holding (KeyFits p) (a .key) (h .key)
+  pub evaluations : Holding (EvaluationsFit p) (a .evaluations) (h .evaluations)
   pub message : Holding (λ (l : List ℕ). length l ≡ 64) (a .message) (h .message)
   pub masks : T (all (isMask p) (h .masks))
   pub few : length (h .masks) ≤ 8

@@ -8,11 +8,11 @@ use mathlib.Core.List.{List}
 use Prim.Native.Nat.{ℕ}
 use Rattle.session_rules.specs.Play.{opened}
 use Rattle.session_rules.specs.Plays.{events, noMaterial}
-use Rattle.session_rules.specs.HeldIsRead.{materialAfter, noneAvailable, availableAfter, HeldIsRead}
+use Rattle.session_rules.specs.HeldIsRead.{materialRead, noneAvailable, availableAfter, HeldIsRead}
 use Rattle.session_rules.specs.After.{after}
 use Rattle.session_rules.proofs.Reaching.{reached-opened, reached-after}
 
 pub held-is-read : (file : List ℕ) (buffers : List (List ℕ))
-    → HeldIsRead (materialAfter noMaterial (events file buffers)) (availableAfter noMaterial noneAvailable (events file buffers)) (after opened file buffers .held)
+    → HeldIsRead (materialRead (events file buffers)) (availableAfter noMaterial noneAvailable (events file buffers)) (after opened file buffers .held)
 unfolding events
 held-is-read file buffers = reached-after noMaterial noneAvailable opened reached-opened file buffers .reads

@@ -8,7 +8,7 @@ use Prim.Native.Nat.{ℕ}
 use Rattle.passign.specs.Hiding.{ourLibrary, Accepted, Every, Hides, HidesExactly}
 use Rattle.passign.proofs.HidingOfMany as library
 use Rattle.session_rules.specs.Play.{opened}
-use Rattle.session_rules.specs.Plays.{events, noMaterial, signings, HidesNone}
+use Rattle.session_rules.specs.Plays.{events, noMaterial, signings, NoneSigned}
 use Rattle.session_rules.specs.HeldIsRead.{noneAvailable}
 use Rattle.session_rules.proofs.Reaching.{reached-opened}
 use Rattle.session_rules.proofs.Signings.{accepted-each, none-signed}
@@ -27,7 +27,7 @@ module _ (file : List ℕ) (buffers : List (List ℕ)) where
   hiding-of-sessions-exactly = library.entry-hiding-of-many-exactly (signings (events file buffers)) signings-accepted
 
   -- a list of plays with no accepted 06 has no signing, and so the empty list of masks
-  pub no-signing : HidesNone (events file buffers)
+  pub no-signing : NoneSigned (events file buffers)
   unfolding signings
   no-signing n =
       let e = none-signed (events file buffers) noMaterial n in

@@ -37,7 +37,7 @@ use Rattle.entry_sign.proofs.Allowed.{sign-allowed}
 use Rattle.passign.specs.Known.{Known}
 use Rattle.passign.proofs.Entry.{answer-entry}
 use Rattle.session_rules.specs.Commands.{signatureRoom}
-use Rattle.session_rules.proofs.Fits.{isMask, ArePoints, IsKey, AreEvaluations}
+use Rattle.session_rules.proofs.Fits.{isMask, PointsFit, KeyFits, EvaluationsFit}
 
 -- ---- masks one after the other
 
@@ -93,7 +93,7 @@ module _ (s : ℕ) (known : s < 5) where
   p = setOf s
 
   module _ (key points : List ℕ) (masks : List (List ℤ)) (message : List ℕ)
-      (k : IsKey p key) (j : ArePoints p points) (t : T (all (isMask p) masks)) (few : length masks ≤ 8) (m : length message ≡ 64) where
+      (k : KeyFits p key) (j : PointsFit p points) (t : T (all (isMask p) masks)) (few : length masks ≤ 8) (m : length message ≡ 64) where
     known-key : Known (s ∷ key) message
     known-key = record { message-size = omega arith; key-some = λ e. omega arith; set = known }
 
@@ -116,7 +116,7 @@ module _ (s : ℕ) (known : s < 5) where
 
   -- ---- the check
 
-  module _ (points vs message op : List ℕ) (j : ArePoints p points) (v : AreEvaluations p vs) (m : length message ≡ 64)
+  module _ (points vs message op : List ℕ) (j : PointsFit p points) (v : EvaluationsFit p vs) (m : length message ≡ 64)
       (size : length op ≡ 2 * p .b + 2 * p .n) where
     range : PublicKeyRange p points vs
     range = public-key-range (set-fitting s known) points vs (j .size) (j .rise) (v .size) (v .below)

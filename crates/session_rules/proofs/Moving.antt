@@ -1,14 +1,13 @@
 -- What a play that writes a row does to the place and the row count, whatever the session and the file.
 -- Assumes nothing.
-use mathlib.Core.Path.{_≡_, refl, sym}
+use mathlib.Core.Path.{_≡_, refl, sym, _∙_}
 use mathlib.Core.Bool.{true, false, true≢false}
 use mathlib.Core.List.{List}
-use mathlib.Core.Logic.{_⊎_, inl, inr}
 use Prim.Native.Nat.{ℕ, _+_, _≤_, _<_}
 use native.Mathlib.Omega.{arith}
 use lib.ListN.{length}
-use Rattle.session_rules.specs.Play.{Session, Step, step}
-use Rattle.session_rules.specs.Ordinals.{BeforeFirst}
+use Rattle.session_rules.specs.Play.{Session, Step, endsWith, step}
+use Rattle.session_rules.specs.Ordinals.{isBeforeFirst, Numbered}
 use Rattle.session_rules.proofs.Cases.{step-by}
 
 pub record Moves (s : Session) (file : List ℕ) (x : Step) : Type 0 where
@@ -18,12 +17,30 @@ pub record Moves (s : Session) (file : List ℕ) (x : Step) : Type 0 where
   -- one that ends has them left
   pub stays : x .session .ended ≡ true → (x .session .place ≡ s .place) × (x .session .rows ≡ s .rows)
   -- the row has the next ordinal, or stands before the first command
-  pub numbered : (x .ordinal ≡ s .rows + 1) ⊎ BeforeFirst s x
+  pub numbered : Numbered s file (s .rows) x
 
-pub moves : (s : Session) (file : List ℕ) → Moves s file (step s file)
-moves s file =
-    step-by s file (Moves s file)
-    (λ n e b. record { forward = λ f. absurd (true≢false f); counts = λ f. absurd (true≢false f); stays = λ f. (refl, refl); numbered = inr b })
-    (λ byte n e. record { forward = λ f. absurd (true≢false f); counts = λ f. absurd (true≢false f); stays = λ f. (refl, refl); numbered = inl refl })
-    (record { forward = λ f. absurd (true≢false f); counts = λ f. absurd (true≢false f); stays = λ f. (refl, refl); numbered = inl refl })
-    (λ at g. record { forward = λ f. (omega (arith, g .later), g .whole); counts = λ f. refl; stays = λ f. absurd (true≢false (sym f)); numbered = inl refl })
+module _ (s : Session) (file : List ℕ) where
+  -- a row that ends the session
+  ended : (ordinal byte number : ℕ) → Numbered s file (s .rows) (endsWith s ordinal byte number) → Moves s file (endsWith s ordinal byte number)
+  ended ordinal byte number n = record {
+    forward = λ f. absurd (true≢false f);
+    counts = λ f. absurd (true≢false f);
+    stays = λ f. (refl, refl);
+    numbered = n;
+  }
+
+  -- the row of a command
+  commanded : (x : Step) → isBeforeFirst s file ≡ false → x .ordinal ≡ s .rows + 1 → Numbered s file (s .rows) x
+  commanded x c e = record { before = λ f. absurd (true≢false (sym f ∙ c)); counted = λ f. e }
+
+  pub moves : Moves s file (step s file)
+  moves =
+      step-by s file (Moves s file)
+      (λ n e f b. ended 0 0 n (record { before = λ t. b; counted = λ t. absurd (true≢false (sym f ∙ t)) }))
+      (λ byte n e c. ended (s .rows + 1) byte n (commanded _ c refl)) (λ c. ended (s .rows + 1) 0 0 (commanded _ c refl))
+      (λ at g. record {
+        forward = λ f. (omega (arith, g .later), g .allowed .whole);
+        counts = λ f. refl;
+        stays = λ f. absurd (true≢false (sym f));
+        numbered = commanded _ (g .behind) refl;
+      })

@@ -1,25 +1,23 @@
 -- Ordinals count from 1: over any list of plays of one file, whatever its bytes and length, the next row's ordinal is the number of rows before it and one
--- more. A row before the first command has ordinal 0, and refusal 1 or 15.
+-- more. Only where the first play finds the file too long or not tagged its row has ordinal 0 and byte 00, with refusal 1 or 15.
 -- Assumes nothing.
-use mathlib.Core.Path.{_≡_, ap, _∙_}
+use mathlib.Core.Path.{_≡_, sym, _∙_}
 use mathlib.Core.Bool.{false}
 use mathlib.Core.List.{List}
-use mathlib.Core.Logic.{_⊎_, inl, inr, ⊎-elim}
-use Prim.Native.Nat.{ℕ, _+_}
+use Prim.Native.Nat.{ℕ}
 use native.Mathlib.Nat.{zero-add}
 use lib.ListN.{length}
 use Rattle.session_rules.specs.Play.{opened, step}
 use Rattle.session_rules.specs.Plays.{events}
 use Rattle.session_rules.specs.After.{after}
-use Rattle.session_rules.specs.Ordinals.{BeforeFirst}
+use Rattle.session_rules.specs.Ordinals.{Numbered}
 use Rattle.session_rules.proofs.Moving.{moves}
 use Rattle.session_rules.proofs.Counting.{counted-after}
 
 -- the row that the next play would write, where the session has not ended
 pub ordinals-count : (file : List ℕ) (buffers : List (List ℕ)) → after opened file buffers .ended ≡ false
-    → (step (after opened file buffers) file .ordinal ≡ length (events file buffers) + 1)
-    ⊎ BeforeFirst (after opened file buffers) (step (after opened file buffers) file)
+    → Numbered (after opened file buffers) file (length (events file buffers)) (step (after opened file buffers) file)
 unfolding events opened
 ordinals-count file buffers goes =
     let rows = counted-after opened file buffers goes ∙ zero-add (length (events file buffers)) in
-    ⊎-elim (λ e. inl (e ∙ ap (λ (n : ℕ). n + 1) rows)) inr (moves (after opened file buffers) file .numbered)
+    rw (sym rows) (moves (after opened file buffers) file .numbered)

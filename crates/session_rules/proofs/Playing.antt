@@ -36,14 +36,14 @@ use Rattle.session_rules.specs.Commands.{Payload, nothing, signed, Done,
 use Rattle.session_rules.specs.Rows.{decimal, hex, spaced, payloadText}
 use Rattle.session_rules.specs.Play.{lacksSet}
 use Rattle.session_rules.specs.Plays.{Event, Material, passedOver, paramsIn, withMasksIn, callWith, firstPassing, withAccepted, withCommand}
-use Rattle.session_rules.specs.HeldIsRead.{Available, availableWithAccepted, availableWith, chosenIn, Holding, absent, holds, HeldIsRead}
+use Rattle.session_rules.specs.HeldIsRead.{Available, availableWithAccepted, availableWith, setRead, Holding, absent, holds, HeldIsRead}
 use Rattle.session_rules.specs.Refusals.{isEnding}
 use Rattle.session_rules.proofs.Fits.{isMask, Fits}
 use Rattle.session_rules.proofs.Library.{sign-refused, check-refused}
 use Rattle.session_rules.proofs.Signature.{signature-size}
 use Rattle.session_rules.proofs.Text.{length-decimal, length-hex, length-spaced-numbers}
 
--- a command that was played; what is told does not look at its buffer
+-- a command that was played; what is read of it does not look at its buffer
 abbrev pub played : ℕ → List ℕ → ℕ → Event
 played b op n = record { byte = b; operand = op; number = n; buffer = [] }
 
@@ -151,7 +151,7 @@ module _ (t : Material) (av : Available) (h : Held) (reads : HeldIsRead t av h) 
     p = paramsIn t
 
     abbrev c : Chosen
-    c = chosenIn t
+    c = setRead t
 
     fitting : Fitting p
     fitting = set-fitting (t .set) known
@@ -336,7 +336,7 @@ module _ (t : Material) (av : Available) (h : Held) (reads : HeldIsRead t av h) 
   abbrev inForce : ℕ → Option Chosen → Done
   inForce b o = elim o [ none ↦ refused 3 h | some x ↦ commandIn x h b op ]
 
-  does-in-force : (b : ℕ) → 1 < b → b < 9 → {given : Bool} (o : Option Chosen) → Holding (λ (x : Chosen). x ≡ chosenIn t) given o → Holding (λ (x : Chosen). x .byte < 5) given o
+  does-in-force : (b : ℕ) → 1 < b → b < 9 → {given : Bool} (o : Option Chosen) → Holding (λ (x : Chosen). x ≡ setRead t) given o → Holding (λ (x : Chosen). x .byte < 5) given o
       → needsSet b && lacksSet o ≡ false → length op ≡ operandSize o b → Does t av h b op (inForce b o)
   does-in-force b low high none absent absent needs size = absurd (true≢false (rw (le-leb 2 b low) at needs))
   does-in-force b low high (some x) (holds e) (holds known) needs size =

@@ -12,7 +12,7 @@ use Rattle.session_rules.proofs.After.{play-by}
 use Rattle.session_rules.proofs.Fits.{Fits}
 use Rattle.session_rules.proofs.Stepping.{Steps, steps}
 
--- what holds of a session after the commands that withCommand t and the public evaluations av
+-- what holds of a session after commands that give the material t and leave av available
 pub record Reached (t : Material) (av : Available) (s : Session) : Type 0 where
   pub reads : HeldIsRead t av (s .held)
   pub fits : Fits (paramsIn t) av (s .held)

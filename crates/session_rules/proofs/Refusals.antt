@@ -1,7 +1,7 @@
 -- Demand 1 over plays, for every session that plays lead to and whatever file each play is lent. A refused command changes nothing of what is held, save
 -- that 9 drops all masks; of the rest it changes only the place and the row count, and for 1, 3, 13, 14, 15 and 16 only the end. An accepted command ends
--- the session just where it is 00. A play that writes a row leaves the bytes behind it, and the row fits its buffer. A play with a wrong row buffer, which is
--- refusal 1, or after the end changes nothing and writes nothing.
+-- the session just where it is 00. Where a row does not end the session, the place moves forward inside the file. A play that writes a row leaves the bytes
+-- behind it, and the row fits its buffer. A play with a wrong row buffer, which is refusal 1, or after the end changes nothing and writes nothing.
 -- Assumes nothing.
 use mathlib.Core.Path.{_≡_, refl, sym, ap, _∙_}
 use mathlib.Core.Bool.{Bool, true}
@@ -13,9 +13,9 @@ use lib.ListN.{length, drop, length-append, length-drop}
 use borrow.Author.Tests.{ne-eqb}
 use Rattle.algebra.proofs.Test.{pick-by}
 use Rattle.session_rules.specs.Held.{Held}
-use Rattle.session_rules.specs.Play.{Session, step, row, answerNumber, Outcome, rowOf, play}
+use Rattle.session_rules.specs.Play.{Session, step, row, answerNumber, Outcome, rowOf, faulty, late, play}
 use Rattle.session_rules.specs.After.{Reachable}
-use Rattle.session_rules.specs.Refusals.{isEnding, faulty, late, RowWritten}
+use Rattle.session_rules.specs.Refusals.{isEnding, RowWritten}
 use Rattle.session_rules.proofs.After.{written-by}
 use Rattle.session_rules.proofs.Moving.{moves}
 use Rattle.session_rules.proofs.Reaching.{reached, reached-step}
@@ -42,6 +42,7 @@ row-written {s} r file buffer n =
           (pick-by (λ (p : ℕ). step s file .session .place ≡ p) (isEnding n) (λ e. m .stays (ends ∙ e) .0) (λ e. refl))
           (pick-by (λ (r : ℕ). step s file .session .rows ≡ r) (isEnding n) (λ e. m .stays (ends ∙ e) .1) (λ e. m .counts (ends ∙ e)))
           (rw (← same) (x .leaves refused));
+      forward = m .forward;
       alone = λ z. x .alone (λ y. z (sym same ∙ y));
       accepted-ends = λ z. x .accepted-ends (same ∙ z);
       buffer-is = refl;

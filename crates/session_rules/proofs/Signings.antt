@@ -11,10 +11,10 @@ use Rattle.algebra.proofs.Test.{and-left, and-right, holds-true, true-holds, pi
 use Rattle.passign.specs.Hiding.{ourLibrary, Made, Accepted, Every}
 use Rattle.session_rules.specs.Commands.{Payload}
 use Rattle.session_rules.specs.Rows.{rowText, atFront}
-use Rattle.session_rules.specs.Play.{Session, step, Outcome, play}
+use Rattle.session_rules.specs.Play.{Session, step, Outcome, written, play}
 use Rattle.session_rules.specs.Plays.{Event, eventOf, eventsFrom, printedSignature, Material, callWith, firstPassing, madeWith, withCommand, isSigning, signingsFrom}
 use Rattle.session_rules.specs.HeldIsRead.{materialAfter, Available, availableAfter}
-use Rattle.session_rules.proofs.After.{written, play-by}
+use Rattle.session_rules.proofs.After.{play-by}
 use Rattle.session_rules.proofs.Text.{printed-back}
 use Rattle.session_rules.proofs.Signature.{signature-below}
 use Rattle.session_rules.proofs.Playing.{SignedWith, bytesWith}

@@ -7,7 +7,7 @@ use native.Mathlib.Omega.{arith}
 use lib.Dec.{eqb}
 use lib.ListN.{length, drop, length-append, length-drop}
 use lib.Seq.{length-take-le}
-use borrow.Author.Tests.{ltb-true, eqb-false, ne-eqb}
+use borrow.Author.Tests.{eqb-false, ne-eqb}
 use Rattle.algebra.specs.Choice.{pick}
 use Rattle.session_rules.specs.Held.{withMasks}
 use Rattle.session_rules.specs.Commands.{Payload, nothing, command}
@@ -83,14 +83,16 @@ module _ (t : Material) (av : Available) (s : Session) (reads : HeldIsRead t av 
 
   module _ (file : List ℕ) where
     -- the operand lies whole in the file
-    operand-whole : (at : ℕ) → at + 1 + sizeDue s file at ≤ length file → length (operandDue s file at) ≡ sizeDue s file at
-    operand-whole at h = length-take-le (sizeDue s file at) (drop (at + 1) file) (omega (arith, length-drop (at + 1) file))
+    operand-whole : (at size : ℕ) → at + 1 + size ≤ length file → length (operandDue file at size) ≡ size
+    operand-whole at size h = length-take-le size (drop (at + 1) file) (omega (arith, length-drop (at + 1) file))
 
-    goes-on : (at : ℕ) → Goes s file at → Steps t av s (goingCommand s file at)
+    goes-on : (at : ℕ) → Goes s file at → Steps t av s (goingCommand s file at (sizeDue file at (s .held .set)))
     goes-on at g =
-        let b = byteDue s file at in
-        let d = does t av (s .held) reads fits (operandDue s file at) b (omega (arith, g .nonzero)) (ltb-true b 9 (g .known)) (g .needs) (operand-whole at (g .whole)) in
-        let done = command (s .held) b (operandDue s file at) in
+        let b = byteDue file at in
+        let a = g .allowed in
+        let size = sizeDue file at (s .held .set) in
+        let d = does t av (s .held) reads fits (operandDue file at size) b (omega (arith, g .nonzero)) (a .known) (a .needs) (operand-whole at size (a .whole)) in
+        let done = command (s .held) b (operandDue file at size) in
         record {
           reads = d .reads;
           fits = d .fits;
@@ -103,4 +105,4 @@ module _ (t : Material) (av : Available) (s : Session) (reads : HeldIsRead t av 
         }
 
     pub steps : Steps t av s (step s file)
-    steps = step-by s file (Steps t av s) (λ n e b. stops 0 0 n e) (λ byte n e. stops (s .rows + 1) byte n e) finishes goes-on
+    steps = step-by s file (Steps t av s) (λ n e f b. stops 0 0 n e) (λ byte n e c. stops (s .rows + 1) byte n e) (λ c. finishes) goes-on

@@ -1,15 +1,8 @@
 -- Lists of plays of one file, and the sessions that plays lead to.
 -- Assumes nothing.
-use mathlib.Core.Bool.{Bool}
 use mathlib.Core.List.{List, [], _∷_}
 use Prim.Native.Nat.{ℕ}
-use lib.Dec.{eqb}
-use lib.ListN.{length}
 use Rattle.session_rules.specs.Play.{Session, opened, play}
-
--- a row buffer of 16,384 bytes
-abbrev pub isRight : List ℕ → Bool
-isRight buffer = eqb (length buffer) 16384
 
 -- the session after plays of one file, each lent a row buffer: the first play is handed s, each further one the session that the last returned
 unfoldable pub after : Session → List ℕ → List (List ℕ) → Session

@@ -11,12 +11,16 @@ use Rattle.algebra.specs.Choice.{pick}
 use Rattle.encoding.specs.Bytes.{numbers}
 use Rattle.session_rules.specs.Held.{Chosen, Held}
 use Rattle.session_rules.specs.Commands.{keyEvaluations}
-use Rattle.session_rules.specs.Plays.{Event, Material, paramsIn, withCommand}
+use Rattle.session_rules.specs.Plays.{Event, Material, noMaterial, paramsIn, withCommand}
 
 -- the material after more commands
 unfoldable pub materialAfter : Material → List Event → Material
 materialAfter m [] = m
 materialAfter m (e ∷ es) = materialAfter (withCommand m e) es
+
+-- the material read from commands that are played from the start
+abbrev pub materialRead : List Event → Material
+materialRead es = materialAfter noMaterial es
 
 -- beside the material: which things an accepted command gave that no later one has forgotten, and the public evaluations given last
 pub record Available : Type 0 where
@@ -64,8 +68,8 @@ availableAfter m a [] = a
 availableAfter m a (e ∷ es) = availableAfter (withCommand m e) (availableWith m a e) es
 
 -- the set read, in force
-abbrev pub chosenIn : Material → Chosen
-chosenIn m = record { byte = m .set; params = paramsIn m }
+abbrev pub setRead : Material → Chosen
+setRead m = record { byte = m .set; params = paramsIn m }
 
 -- where a thing is available something is held, and P of it; elsewhere nothing is
 pub data Holding {A : Type 0} (P : A → Type 0) : Bool → Option A → Type 0 where
@@ -74,7 +78,7 @@ pub data Holding {A : Type 0} (P : A → Type 0) : Bool → Option A → Type 0 
 
 -- what is held is what is read
 pub record HeldIsRead (m : Material) (a : Available) (h : Held) : Type 0 where
-  pub set : Holding (λ (c : Chosen). c ≡ chosenIn m) (a .set) (h .set)
+  pub set : Holding (λ (c : Chosen). c ≡ setRead m) (a .set) (h .set)
   pub points : Holding (λ (l : List ℕ). l ≡ m .points) (a .points) (h .points)
   pub key : Holding (λ (l : List ℕ). l ≡ m .key) (a .key) (h .key)
   pub evaluations : Holding (λ (l : List ℕ). l ≡ a .values) (a .evaluations) (h .evaluations)

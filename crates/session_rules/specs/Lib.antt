@@ -6,6 +6,5 @@ pub mod Plays
 pub mod HeldIsRead
 pub mod After
 pub mod Transcript
-pub mod RightPlays
 pub mod Ordinals
 pub mod Refusals

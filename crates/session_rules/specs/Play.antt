@@ -41,6 +41,28 @@ abbrev pub lacksSet : Option Chosen → Bool
 lacksSet none = true
 lacksSet (some c) = false
 
+module _ (file : List ℕ) (at : ℕ) where
+  -- the command byte due at a place: 00 where the file ends
+  abbrev pub byteDue : ℕ
+  byteDue = getD file at 0
+
+  -- its operand, of this size
+  abbrev pub operandDue : ℕ → List ℕ
+  operandDue size = take size (drop (at + 1) file)
+
+  module _ (set : Option Chosen) where
+    -- the size of its operand, in the set in force
+    abbrev pub sizeDue : ℕ
+    sizeDue = operandSize set byteDue
+
+    -- the refusal that ends the session where a command is due, or 0: 13 where the file ends, 14, 3, 13 inside the operand
+    unfoldable pub refusalDue : ℕ
+    refusalDue =
+        pick (leb (length file) at) 13
+        (pick (not (isKnown byteDue)) 14
+        (pick (needsSet byteDue && lacksSet set) 3
+        (pick (ltb (length file) (at + 1 + sizeDue)) 13 0)))
+
 module _ (s : Session) where
   -- a row that ends the session. Nothing is played from there, so its place and row count stay, with all that is held
   abbrev pub endsWith : ℕ → ℕ → ℕ → Step
@@ -75,32 +97,20 @@ module _ (s : Session) where
       }
 
   module _ (file : List ℕ) (at : ℕ) where
-    -- the command byte due at a place, the size of its operand, and the operand
-    abbrev pub byteDue : ℕ
-    byteDue = getD file at 0
-
-    abbrev pub sizeDue : ℕ
-    sizeDue = operandSize (s .held .set) byteDue
-
-    abbrev pub operandDue : List ℕ
-    operandDue = take sizeDue (drop (at + 1) file)
-
     -- 00 ends the session: accepted where nothing follows, else 16
     abbrev pub endCommand : Step
     endCommand = endsAt 0 (pick (eqb (length file) (at + 1)) 0 16)
 
-    -- any other command goes on
-    abbrev pub goingCommand : Step
-    goingCommand = goesOn (at + 1 + sizeDue) byteDue operandDue (command (s .held) byteDue operandDue)
+    -- any other command, with an operand of this size, goes on
+    abbrev pub goingCommand : ℕ → Step
+    goingCommand size = goesOn (at + 1 + size) (byteDue file at) (operandDue file at size) (command (s .held) (byteDue file at) (operandDue file at size))
 
-    -- the command due there: 13 (byte 00) where the file ends, 14, 3, 13 inside an operand, then its own
+    -- the command due at a place: a refusal that is due ends the session, and prints the byte due; else 00 or any other is played
     unfoldable pub commandStep : Step
     commandStep =
-        pick (leb (length file) at) (endsAt 0 13)
-        (pick (not (isKnown byteDue)) (endsAt byteDue 14)
-        (pick (needsSet byteDue && lacksSet (s .held .set)) (endsAt byteDue 3)
-        (pick (ltb (length file) (at + 1 + sizeDue)) (endsAt byteDue 13)
-        (pick (eqb byteDue 0) endCommand goingCommand))))
+        pick (not (eqb (refusalDue file at (s .held .set)) 0)) (endsAt (byteDue file at) (refusalDue file at (s .held .set)))
+        (pick (eqb (byteDue file at) 0) endCommand
+        (goingCommand (sizeDue file at (s .held .set))))
 
   -- the first play, at place 0, tests the length and the tag, and then plays the first command
   unfoldable pub step : List ℕ → Step
@@ -130,10 +140,21 @@ pub record Outcome : Type 0 where
 abbrev pub rowOf : Step → List ℕ
 rowOf t = rowText (t .ordinal) (t .byte) (t .number) (t .payload)
 
--- one play, lent the file and a row buffer. A buffer not of 16,384 bytes is at fault ahead of all else, and leaves the session;
--- after the end nothing is written
+-- a row buffer of 16,384 bytes
+abbrev pub isRight : List ℕ → Bool
+isRight buffer = eqb (length buffer) 16384
+
+-- session and row buffer are left: by a play with a wrong row buffer, and by one after the end
+abbrev pub faulty : Session → List ℕ → Outcome
+faulty s buffer = record { session = s; answer = fault; buffer = buffer }
+
+abbrev pub late : Session → List ℕ → Outcome
+late s buffer = record { session = s; answer = over; buffer = buffer }
+
+-- a play that writes a row
+abbrev pub written : Session → List ℕ → List ℕ → Outcome
+written s file buffer = record { session = step s file .session; answer = row (step s file .number); buffer = atFront (rowOf (step s file)) buffer }
+
+-- one play, lent the file and a row buffer. A wrong row buffer is at fault ahead of all else
 unfoldable pub play : Session → List ℕ → List ℕ → Outcome
-play s file buffer =
-    pick (not (eqb (length buffer) 16384)) (record { session = s; answer = fault; buffer = buffer })
-    (pick (s .ended) (record { session = s; answer = over; buffer = buffer })
-    (record { session = step s file .session; answer = row (step s file .number); buffer = atFront (rowOf (step s file)) buffer }))
+play s file buffer = pick (not (isRight buffer)) (faulty s buffer) (pick (s .ended) (late s buffer) (written s file buffer))

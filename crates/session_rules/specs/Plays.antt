@@ -134,8 +134,9 @@ signingsFrom m (e ∷ es) = pick (isSigning e) (madeWith m (e .buffer) ∷ []) [
 unfoldable pub signings : List Event → List Made
 signings es = signingsFrom noMaterial es
 
--- demand 3 of commands that were played is `Hides ourLibrary (signings es)`. Where no 06 was accepted there is no signing, and so the empty list of masks
-abbrev pub HidesNone : List Event → Type 0
-HidesNone es =
+-- demand 3 of commands that were played is `Hides ourLibrary (signings es)`. "A list of plays with no accepted 06 has the empty list of masks": there is no
+-- signing, and no other list of masks does
+abbrev pub NoneSigned : List Event → Type 0
+NoneSigned es =
     T (all (λ (e : Event). not (isSigning e)) es)
     → (signings es ≡ []) × ((ys : List (List ℤ)) → Each₃ (Same ourLibrary) (signings es) [] ys ↔ (ys ≡ []))

@@ -1,39 +1,35 @@
 -- Document 01, "Refusals, by who can cause them": what a play that writes a row leaves and changes, and what one without a row leaves.
 -- Assumes nothing.
 use mathlib.Core.Path.{_≡_}
-use mathlib.Core.Bool.{Bool, _||_, _&&_}
+use mathlib.Core.Bool.{Bool, false, _||_, _&&_}
 use mathlib.Core.List.{List, [], _++_}
-use Prim.Native.Nat.{ℕ, _+_, _≤_}
+use Prim.Native.Nat.{ℕ, _+_, _≤_, _<_}
 use lib.Dec.{leb, eqb}
 use lib.ListN.{length, drop}
 use Rattle.algebra.specs.Choice.{pick}
 use Rattle.session_rules.specs.Held.{withMasks}
 use Rattle.session_rules.specs.Commands.{nothing}
-use Rattle.session_rules.specs.Play.{Session, step, fault, over, Outcome, rowOf}
+use Rattle.session_rules.specs.Play.{Session, step, Outcome, rowOf}
 
 -- "Numbers 1, 3, 13, 14, 15, 16 end the session; others go on"
 abbrev pub isEnding : ℕ → Bool
 isEnding n = eqb n 1 || (eqb n 3 || (leb 13 n && leb n 16))
 
--- session and row buffer are left: by a play with a wrong row buffer, and by one after the end
-abbrev pub faulty : Session → List ℕ → Outcome
-faulty s buffer = record { session = s; answer = fault; buffer = buffer }
-
-abbrev pub late : Session → List ℕ → Outcome
-late s buffer = record { session = s; answer = over; buffer = buffer }
-
 -- a play that wrote a row with number n
 pub record RowWritten (s : Session) (file buffer : List ℕ) (n : ℕ) (o : Outcome) : Type 0 where
   -- the row prints the number that is answered
   pub number : step s file .number ≡ n
-  -- a refusal that ends the session leaves all else; any other moves the place, counts its row and leaves what is held, save that 9 drops all masks
+  -- a refusal that ends the session leaves all else; any other moves the place as `forward` says, counts its row and leaves what is held, save that 9
+  -- drops all masks
   pub rest : (n ≡ 0 → ⊥) → o .session ≡ record {
     ended = isEnding n;
     place = pick (isEnding n) (s .place) (o .session .place);
     rows = pick (isEnding n) (s .rows) (s .rows + 1);
     held = pick (eqb n 9) (withMasks [] (s .held)) (s .held);
   }
-  -- it has its number alone
+  -- a row that does not end the session moves the place forward, past a command that lies in the file
+  pub forward : o .session .ended ≡ false → (s .place < o .session .place) × (o .session .place ≤ length file)
+  -- a refusal has its number alone
   pub alone : (n ≡ 0 → ⊥) → step s file .payload ≡ nothing
   -- an accepted command ends the session just where it is 00
   pub accepted-ends : n ≡ 0 → o .session .ended ≡ eqb (step s file .byte) 0

@@ -8,18 +8,16 @@ use lib.ListN.{length}
 use borrow.Author.Needs.{needs}
 use borrow.Author.Tests.{eq-eqb, ne-eqb}
 use Rattle.session_rules.specs.Play as rules
-use Rattle.session_rules.specs.Rows.{atFront}
 use Rattle.session.specs.Session.{sessionOf}
 use Rattle.session.proofs.play.Statement.{statement}
 use Rattle.session.proofs.play.Tie as tie
 
 module _ (s : rules.Session) (file buffer : List ℕ) (size : length buffer ≡ 16384) where
-  ended : s .ended ≡ true → rules.play s file buffer ≡ record { session = s; answer = rules.over; buffer = buffer }
+  ended : s .ended ≡ true → rules.play s file buffer ≡ rules.late s buffer
   unfolding rules.play
   ended e = rw (eq-eqb (length buffer) 16384 size, e)
 
-  steps : s .ended ≡ false → rules.play s file buffer
-      ≡ record { session = rules.step s file .session; answer = rules.row (rules.step s file .number); buffer = atFront (rules.rowOf (rules.step s file)) buffer }
+  steps : s .ended ≡ false → rules.play s file buffer ≡ rules.written s file buffer
   unfolding rules.play
   steps e = rw (eq-eqb (length buffer) 16384 size, e)
 

@@ -3,9 +3,10 @@
 use mathlib.Core.Path.{sym, _∙_}
 use native.Mathlib.Omega.{arith}
 use borrow.Author.Needs.{needs}
+use Rattle.session_rules.proofs.Cases.{allowed}
 use Rattle.session_state.proofs.State.{heldOf-set}
 use Rattle.session.specs.Session.{sessionOf}
-use Rattle.session.proofs.Due.{allowed, refuses, ends}
+use Rattle.session.proofs.Due.{refuses, ends}
 use Rattle.session.proofs.RowCount.{next-inside}
 use Rattle.session.proofs.step.command_step.Statement.{statement}
 use Rattle.session.proofs.step.command_step.Tie as tie

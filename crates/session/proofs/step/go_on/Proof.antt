@@ -5,9 +5,10 @@ use Prim.Native.Nat.{_+_}
 use native.Mathlib.Nat.{add-sub-cancel-left}
 use native.Mathlib.Omega.{arith}
 use borrow.Author.Needs.{needs}
+use Rattle.session_rules.proofs.Cases.{allowed}
 use Rattle.session_state.proofs.State.{heldOf-set}
 use Rattle.session.specs.Session.{sessionOf}
-use Rattle.session.proofs.Due.{allowed, goes}
+use Rattle.session.proofs.Due.{goes}
 use Rattle.session.proofs.RowCount.{rows-kept}
 use Rattle.session.proofs.step.go_on.Statement.{statement}
 use Rattle.session.proofs.step.go_on.Tie as tie

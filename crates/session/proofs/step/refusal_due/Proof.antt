@@ -11,19 +11,18 @@ use borrow.Author.Needs.{needs}
 use borrow.Author.Tests.{lt-ltb, le-ltb, le-leb, lt-leb, ltb-true, ltb-false}
 use Rattle.algebra.specs.Choice.{pick}
 use Rattle.algebra.proofs.Test.{by-test}
-use Rattle.session_rules.specs.Commands.{operandSize}
+use Rattle.session_rules.specs.Play.{sizeDue, refusalDue}
 use Rattle.session_state.specs.State.{setHeld}
 use Rattle.session_state.proofs.State.{lacks-set}
-use Rattle.session.specs.Session.{refusalDue}
 use Rattle.session.proofs.step.refusal_due.Statement.{statement}
 use Rattle.session.proofs.step.refusal_due.Tie as tie
 
 module _ (file : List ℕ) (at set : ℕ) (inside : at < length file) (known : getD file at 0 < 9) where
   abbrev size : ℕ
-  size = operandSize (setHeld set) (getD file at 0)
+  size = sizeDue file at (setHeld set)
 
   -- behind the tests of the place and the byte
-  behind : refusalDue file at set ≡ pick (leb 2 (getD file at 0) && ltb 4 set) 3 (pick (ltb (length file) (at + 1 + size)) 13 0)
+  behind : refusalDue file at (setHeld set) ≡ pick (leb 2 (getD file at 0) && ltb 4 set) 3 (pick (ltb (length file) (at + 1 + size)) 13 0)
   unfolding refusalDue
   behind = rw (lt-leb (length file) at inside, lt-ltb (getD file at 0) 9 known, lacks-set set)
 
@@ -34,7 +33,7 @@ module _ (file : List ℕ) (at set : ℕ) (inside : at < length file) (known : g
       (λ e. rw e (lt-ltb (length file) (at + 1 + size) (omega (arith, ltb-true (length file - at - 1) size e))))
       (λ e. rw e (le-ltb (length file) (at + 1 + size) (omega (arith, ltb-false (length file - at - 1) size e))))
 
-  within : leb 2 (getD file at 0) && ltb 4 set ≡ false → refusalDue file at set ≡ pick (ltb (length file - at - 1) size) 13 0
+  within : leb 2 (getD file at 0) && ltb 4 set ≡ false → refusalDue file at (setHeld set) ≡ pick (ltb (length file - at - 1) size) 13 0
   within e = rw (behind, e, cut)
 
 returns : tie.Need-returns
