@@ -1,30 +1,30 @@
 -- Public keys and signatures as their bytes say them: those that are written are read back and allowed.
 -- Assumes nothing.
-use mathlib.Core.Path.{_≡_, refl, sym, ap, ap₂, _∙_}
+use mathlib.Core.Path.{_≡_, sym, ap, ap₂, _∙_}
 use mathlib.Core.Bool.{true}
-use mathlib.Core.List.{List, [], _∷_}
-use Prim.Native.Nat.{ℕ, zero, suc, _-_, _≤_}
+use mathlib.Core.List.{List}
+use Prim.Native.Nat.{ℕ, _-_, _≤_}
 use native.Mathlib.Omega.{arith}
 use lib.Dec.{T, ltb, leb, lt→ltb, leb→le}
-use lib.IntN.{ℤ, pos, negsuc, natAbs}
+use lib.IntN.{ℤ, natAbs}
 use lib.ListN.{length}
 use lib.Signed.{mag}
 use Rattle.algebra.proofs.All.{all-weaker}
-use Rattle.algebra.proofs.Test.{and-left, and-right, holds-true}
+use Rattle.algebra.proofs.Test.{holds-true}
 use Rattle.algebra.specs.Integer.{within}
 use Rattle.parameters.specs.declared.Params.{Params}
 use Rattle.parameters.specs.Sound.{Sound, Fitting}
-use Rattle.polynomial.specs.Polynomial.{ternary, weight}
 use Rattle.polynomial.specs.Evaluation.{evaluations}
 use Rattle.polynomial.proofs.EvaluationLaws.{length-evaluations, evaluations-below}
 use Rattle.challenge.specs.Draw.{Sparse}
-use Rattle.encoding.specs.Challenge.{entriesFrom, entriesOf, areEntries, challengeOf}
+use Rattle.encoding.specs.Challenge.{entriesOf, areEntries, challengeOf}
 use Rattle.encoding.specs.Encoding.{publicKeySize, publicKey, arePoints, areEvaluations, pointsOf, evaluationsOf, signatureSize, SignatureRange, entriesRead, pointRead}
 use Rattle.encoding.proofs.Sign.{mag-le}
 use Rattle.encoding.proofs.Range.{public-key-range}
 use Rattle.encoding.proofs.OneEncoding.{points-read-back, evaluations-read-back, public-key-length, entries-read-back, point-read-back, signature-length, entries-accepted, entries-below, challenge-read-back}
 use Rattle.scheme.specs.Scheme.{Signature}
 use Rattle.signer.specs.Signer.{signatureOf}
+use Rattle.signer.proofs.EntryCount.{length-entries}
 use Rattle.entry_check.specs.Check.{signatureRead}
 
 -- ---- public keys
@@ -51,15 +51,6 @@ public-key-read {p} sound fitting set f points size rise =
 
 -- ---- signatures
 
--- a ternary challenge has as many entries as its weight
-entries-count : (i : ℕ) (c : List ℤ) → T (ternary c) → length (entriesFrom i c) ≡ weight c
-entries-count i [] t = refl
-entries-count i (pos zero ∷ c) t = entries-count (suc i) c t ∙ omega arith
-entries-count i (pos (suc a) ∷ c) t =
-    omega (arith, entries-count (suc i) c (and-right (leb (suc a) 1) (ternary c) t), leb→le (suc a) 1 (and-left (leb (suc a) 1) (ternary c) t))
-entries-count i (negsuc a ∷ c) t =
-    omega (arith, entries-count (suc i) c (and-right (leb (suc a) 1) (ternary c) t), leb→le (suc a) 1 (and-left (leb (suc a) 1) (ternary c) t))
-
 -- what the signature of an accepted signing has: a sparse challenge, and a point of N coefficients in range
 pub record SignatureFits (p : Params) (s : Signature) : Type 0 where
   pub challenge : Sparse p (s .c)
@@ -72,7 +63,7 @@ module _ {p : Params} (fitting : Fitting p) (set : ℕ) (s : Signature) (w : Sig
 
   signature-range : SignatureRange p (entriesOf (s .c)) (s .z)
   signature-range = record {
-    entries-length = entries-count 0 (s .c) (w .challenge .small) ∙ w .challenge .full;
+    entries-length = length-entries 0 (s .c) (w .challenge .small) ∙ w .challenge .full;
     entries-below = entries-below (s .c) challenge-fits;
     point-length = w .point-size;
     point-signed =
