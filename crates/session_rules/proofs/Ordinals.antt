@@ -1,7 +1,7 @@
 -- Ordinals count from 1: over any list of plays of one file, whatever its bytes and length, the next row's ordinal is the number of rows before it and one
 -- more. Only where the first play finds the file too long or not tagged its row has ordinal 0 and byte 00, with refusal 1 or 15.
 -- Assumes nothing.
-use mathlib.Core.Path.{_≡_, sym, _∙_}
+use mathlib.Core.Path.{_≡_, _∙_}
 use mathlib.Core.Bool.{false}
 use mathlib.Core.List.{List}
 use Prim.Native.Nat.{ℕ}
@@ -20,4 +20,4 @@ pub ordinals-count : (file : List ℕ) (buffers : List (List ℕ)) → after ope
 unfolding events opened
 ordinals-count file buffers goes =
     let rows = counted-after opened file buffers goes ∙ zero-add (length (events file buffers)) in
-    rw (sym rows) (moves (after opened file buffers) file .numbered)
+    rw (← rows) (moves (after opened file buffers) file .numbered)

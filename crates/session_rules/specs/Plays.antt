@@ -29,12 +29,12 @@ pub record Event : Type 0 where
 
 -- the command that a play of session s plays, where it writes a row
 abbrev pub eventOf : Session → List ℕ → Outcome → List Event
-eventOf s file o = written (o .answer)
+eventOf s file o = ofAnswer (o .answer)
   where
-    written : PlayAnswer → List Event
-    written (row n) = record { byte = step s file .byte; operand = step s file .operand; number = n; buffer = o .buffer } ∷ []
-    written fault = []
-    written over = []
+    ofAnswer : PlayAnswer → List Event
+    ofAnswer (row n) = record { byte = step s file .byte; operand = step s file .operand; number = n; buffer = o .buffer } ∷ []
+    ofAnswer fault = []
+    ofAnswer over = []
 
 -- the commands played by a list of plays, whatever row buffer each is lent: the first play is handed s, each further one the session that
 -- the last returned
