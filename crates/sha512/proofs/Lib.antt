@@ -2,4 +2,3 @@ pub mod Loops
 pub mod Filling
 pub mod Chain
 pub mod Digest
-pub mod Roots

@@ -1,9 +1,9 @@
 -- `round_constants` is K, number by number.
 -- Assumes nothing.
 use mathlib.Core.Path.{refl}
-use Rattle.sha512.specs.Constants.{K}
-use Rattle.sha512.proofs.constants.round_constants.Statement.{statement}
-use Rattle.sha512.proofs.constants.round_constants.Tie as tie
+use Rattle.sha512_functions.specs.Constants.{K}
+use Rattle.sha512_functions.proofs.constants.round_constants.Statement.{statement}
+use Rattle.sha512_functions.proofs.constants.round_constants.Tie as tie
 
 returns : tie.Need-returns
 unfolding K

@@ -1,6 +1,6 @@
 // The constants of FIPS 180-4, sections 4.2.3 and 5.3.5. A use of a constant array copies it: callers take each once, outside of their loops.
 ghost use mathlib.Core.Path.{_≡_};
-ghost use Rattle.sha512.specs.Constants.{K, H0};
+ghost use Rattle.sha512_functions.specs.Constants.{K, H0};
 
 const ROUND_CONSTANTS: [u64; 80] = [
     0x428a_2f98_d728_ae22,

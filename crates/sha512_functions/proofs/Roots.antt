@@ -4,8 +4,8 @@
 use mathlib.Core.Path.{_≡_, refl}
 use mathlib.Core.Bool.{true}
 use lib.ListN.{take}
-use Rattle.sha512.specs.Constants.{K, H0}
-use Rattle.sha512.specs.Roots.{undivided, withNext, primesFromTwo, primes, isRoot, someRoot, roots}
+use Rattle.sha512_functions.specs.Constants.{K, H0}
+use Rattle.sha512_functions.specs.Roots.{undivided, withNext, primesFromTwo, primes, isRoot, someRoot, roots}
 
 round-constants : roots 3 primes K ≡ true
 unfolding roots someRoot isRoot primes primesFromTwo withNext undivided K

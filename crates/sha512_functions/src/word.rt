@@ -1,7 +1,7 @@
 // The six functions of FIPS 180-4, section 4.1.3, on words of 64 bits.
 ghost use mathlib.Core.Path.{_≡_};
 ghost use Prim.Native.Nat.{_<_};
-ghost use Rattle.sha512.specs.Word.{ROTR, Ch, Maj, Σ0, Σ1, σ0, σ1};
+ghost use Rattle.sha512_functions.specs.Word.{ROTR, Ch, Maj, Σ0, Σ1, σ0, σ1};
 
 fn rotate_right(x: u64, n: u64) -> u64
     requires { ⌜ (0 < n) × (n < 64) ⌝ }
