@@ -10,25 +10,16 @@ use Rattle.encoding.specs.Encoding.{entriesRead}
 use Rattle.entry_check.proofs.challenge_read.Statement.{statement}
 use Rattle.entry_check.proofs.challenge_read.Tie as tie
 
-words-of-requires : tie.Need-words-of-requires
-words-of-requires c κs = search needs
-
 array-share-prefix-entries : tie.Need-array-share-prefix-entries
 array-share-prefix-entries c = search needs
 
 slice-aggregate-read-challenge : tie.Need-slice-aggregate-read-challenge
 slice-aggregate-read-challenge c = sym (length-take-le _ (c .before .words-of .result) (array-share-prefix-entries (c .before)))
 
-array-borrow-prefix-out : tie.Need-array-borrow-prefix-out
-array-borrow-prefix-out c = search needs
-
 slice-aggregate-read-challenge-2 : tie.Need-slice-aggregate-read-challenge-2
 slice-aggregate-read-challenge-2 c =
     let s = c .before .before .before .before in
     sym (length-take-le (s .args .p .n) (replicate 1153 (pos 0)) (s .pre .0 .size))
-
-read-challenge-requires : tie.Need-read-challenge-requires
-read-challenge-requires c κs = search needs
 
 returns : tie.Need-returns
 unfolding entriesRead
@@ -42,11 +33,5 @@ returns c =
 pub challenge-read-spec : {M : Type 1} → statement M
 challenge-read-spec =
     tie.close
-    (tie.spec
-    words-of-requires
-    array-share-prefix-entries
-    slice-aggregate-read-challenge
-    array-borrow-prefix-out
-    slice-aggregate-read-challenge-2
-    read-challenge-requires
-    returns)
+    (tie.spec (λ c κs. search needs) array-share-prefix-entries slice-aggregate-read-challenge (λ c. search needs) slice-aggregate-read-challenge-2
+    (λ c κs. search needs) returns)

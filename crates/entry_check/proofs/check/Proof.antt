@@ -21,17 +21,11 @@ returns-3 : tie.Need-returns-3
 unfolding checkAnswer
 returns-3 c = rw (le-ltb 65535 _ (c .before .before .if1 .left), ne-eqb _ 0 (c .before .if2 .left), eq-eqb _ 0 (c .if3 .taken))
 
-shared-slice-read-set : tie.Need-shared-slice-read-set
-shared-slice-read-set c = search needs
-
 returns-4 : tie.Need-returns-4
 unfolding checkAnswer
 returns-4 c =
     let s = c .before .before in
     rw (le-ltb 65535 _ (s .before .before .if1 .left), ne-eqb _ 0 (s .before .if2 .left), ne-eqb _ 0 (s .if3 .left), le-ltb _ 5 (c .if4 .taken))
-
-shared-slice-read-if5 : tie.Need-shared-slice-read-if5
-shared-slice-read-if5 c = search needs
 
 returns-5 : tie.Need-returns-5
 unfolding checkAnswer
@@ -39,12 +33,6 @@ returns-5 c =
     let s = c .before .before .before .before in
     let known : getD (s .before .before .before .before .before .before .args .public-key .now) 0 0 < 5 = omega arith in
     rw (le-ltb 65535 _ (s .before .before .if1 .left), ne-eqb _ 0 (s .before .if2 .left), ne-eqb _ 0 (s .if3 .left), lt-ltb _ 5 known, ne-eqb _ _ (c .if5 .taken))
-
-params-of-requires : tie.Need-params-of-requires
-params-of-requires c κs = search needs
-
-check-in-requires : tie.Need-check-in-requires
-check-in-requires c κs = search needs
 
 returns-6 : tie.Need-returns-6
 unfolding checkAnswer
@@ -64,14 +52,5 @@ returns-6 c =
 pub check-spec : {M : Type 1} → statement M
 check-spec =
     tie.close
-    (tie.spec
-    returns
-    returns-2
-    returns-3
-    shared-slice-read-set
-    returns-4
-    shared-slice-read-if5
-    returns-5
-    params-of-requires
-    check-in-requires
+    (tie.spec returns returns-2 returns-3 (λ c. search needs) returns-4 (λ c. search needs) returns-5 (λ c κs. search needs) (λ c κs. search needs)
     returns-6)

@@ -15,9 +15,6 @@ returns : tie.Need-returns
 unfolding checkAnswerIn
 returns c = rw (← c .before .refusal-in .ensures, ne-eqb _ 0 (c .if1 .taken))
 
-verdict-in-requires : tie.Need-verdict-in-requires
-verdict-in-requires c κs = search needs
-
 returns-2 : tie.Need-returns-2
 unfolding checkAnswerIn
 returns-2 c =
@@ -31,4 +28,4 @@ returns-3 c =
     rw (← r .before .refusal-in .ensures, eq-eqb _ 0 (r .if1 .left), sym (c .before .verdict-in .ensures) ∙ c .if2 .left)
 
 pub check-in-spec : {M : Type 1} → statement M
-check-in-spec = tie.close (tie.spec refusal-in-requires returns verdict-in-requires returns-2 returns-3)
+check-in-spec = tie.close (tie.spec refusal-in-requires returns (λ c κs. search needs) returns-2 returns-3)

@@ -14,24 +14,6 @@ use Rattle.encoding.proofs.Parts.{take-rest}
 use Rattle.entry_check.proofs.point_read.Statement.{statement}
 use Rattle.entry_check.proofs.point_read.Tie as tie
 
-mul-start : tie.Need-mul-start
-mul-start c = search needs
-
-add-start : tie.Need-add-start
-add-start c = search needs
-
-sub-read-signed-words : tie.Need-sub-read-signed-words
-sub-read-signed-words c = search needs
-
-part-read-signed-words-start : tie.Need-part-read-signed-words-start
-part-read-signed-words-start c = search needs
-
-part-read-signed-words-end : tie.Need-part-read-signed-words-end
-part-read-signed-words-end c = search needs
-
-array-borrow-prefix-out : tie.Need-array-borrow-prefix-out
-array-borrow-prefix-out c = search needs
-
 slice-aggregate-read-signed-words : tie.Need-slice-aggregate-read-signed-words
 slice-aggregate-read-signed-words c =
     let s = c .before .before .before .before in
@@ -57,13 +39,5 @@ returns c =
 pub point-read-spec : {M : Type 1} → statement M
 point-read-spec =
     tie.close
-    (tie.spec
-    mul-start
-    add-start
-    sub-read-signed-words
-    part-read-signed-words-start
-    part-read-signed-words-end
-    array-borrow-prefix-out
-    slice-aggregate-read-signed-words
-    read-signed-words-requires
-    returns)
+    (tie.spec (λ c. search needs) (λ c. search needs) (λ c. search needs) (λ c. search needs) (λ c. search needs) (λ c. search needs)
+    slice-aggregate-read-signed-words read-signed-words-requires returns)

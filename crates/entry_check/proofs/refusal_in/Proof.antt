@@ -7,49 +7,19 @@ use Rattle.entry_check.specs.Check.{checkRefusalIn}
 use Rattle.entry_check.proofs.refusal_in.Statement.{statement}
 use Rattle.entry_check.proofs.refusal_in.Tie as tie
 
-mul-if1 : tie.Need-mul-if1
-mul-if1 c = search needs
-
-add-if1 : tie.Need-add-if1
-add-if1 c = search needs
-
-mul-if1-2 : tie.Need-mul-if1-2
-mul-if1-2 c = search needs
-
-add-if1-2 : tie.Need-add-if1-2
-add-if1-2 c = search needs
-
 returns : tie.Need-returns
 unfolding checkRefusalIn
 returns c = rw (ne-eqb _ _ (c .if1 .taken))
 
-mul-if2 : tie.Need-mul-if2
-mul-if2 c = search needs
-
-add-if2 : tie.Need-add-if2
-add-if2 c = search needs
-
-mul-if2-2 : tie.Need-mul-if2-2
-mul-if2-2 c = search needs
-
-add-if2-2 : tie.Need-add-if2-2
-add-if2-2 c = search needs
-
 returns-2 : tie.Need-returns-2
 unfolding checkRefusalIn
 returns-2 c = rw (eq-eqb _ _ (c .before .if1 .left), ne-eqb _ _ (c .if2 .taken))
-
-has-points-requires : tie.Need-has-points-requires
-has-points-requires c κs = search needs
 
 returns-3 : tie.Need-returns-3
 unfolding checkRefusalIn
 returns-3 c =
     let s = c .before .before in
     rw (eq-eqb _ _ (s .before .if1 .left), eq-eqb _ _ (s .if2 .left), sym (c .before .has-points .ensures) ∙ not-true _ (c .if3 .taken))
-
-has-evaluations-requires : tie.Need-has-evaluations-requires
-has-evaluations-requires c κs = search needs
 
 returns-4 : tie.Need-returns-4
 unfolding checkRefusalIn
@@ -62,9 +32,6 @@ returns-4 c =
       sym (r .before .has-points .ensures) ∙ not-false _ (r .if3 .left),
       sym (c .before .has-evaluations .ensures) ∙ not-true _ (c .if4 .taken),
     )
-
-has-entries-requires : tie.Need-has-entries-requires
-has-entries-requires c κs = search needs
 
 returns-5 : tie.Need-returns-5
 unfolding checkRefusalIn
@@ -97,21 +64,6 @@ returns-6 c =
 pub refusal-in-spec : {M : Type 1} → statement M
 refusal-in-spec =
     tie.close
-    (tie.spec
-    mul-if1
-    add-if1
-    mul-if1-2
-    add-if1-2
-    returns
-    mul-if2
-    add-if2
-    mul-if2-2
-    add-if2-2
-    returns-2
-    has-points-requires
-    returns-3
-    has-evaluations-requires
-    returns-4
-    has-entries-requires
-    returns-5
+    (tie.spec (λ c. search needs) (λ c. search needs) (λ c. search needs) (λ c. search needs) returns (λ c. search needs) (λ c. search needs)
+    (λ c. search needs) (λ c. search needs) returns-2 (λ c κs. search needs) returns-3 (λ c κs. search needs) returns-4 (λ c κs. search needs) returns-5
     returns-6)

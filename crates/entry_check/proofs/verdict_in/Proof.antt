@@ -37,9 +37,6 @@ same-verdict : (p : Params) (message : List ℕ) {js ks vs ws : List ℕ} {c d y
     → verdict drawChallenge p js message vs (record { c = c; z = y }) ≡ verdict drawChallenge p ks message ws (record { c = d; z = z })
 same-verdict p message e f g h = rw (e, f, g, h)
 
-powers-of-requires : tie.Need-powers-of-requires
-powers-of-requires c κs = search needs
-
 words-of-requires : tie.Need-words-of-requires
 words-of-requires c κs =
     let s = c .before .before .before .before in
@@ -120,21 +117,6 @@ returns c =
 pub verdict-in-spec : {M : Type 1} → statement M
 verdict-in-spec =
     tie.close
-    (tie.spec
-    powers-of-requires
-    words-of-requires
-    evaluations-of-requires
-    challenge-read-requires
-    point-read-requires
-    array-share-prefix-table
-    slice-aggregate-verdict-of
-    array-share-prefix-points
-    slice-aggregate-verdict-of-2
-    array-share-prefix-evaluations
-    slice-aggregate-verdict-of-3
-    array-share-prefix-c
-    slice-aggregate-verdict-of-4
-    array-share-prefix-z
-    slice-aggregate-verdict-of-5
-    verdict-of-requires
-    returns)
+    (tie.spec (λ c κs. search needs) words-of-requires evaluations-of-requires challenge-read-requires point-read-requires array-share-prefix-table
+    slice-aggregate-verdict-of array-share-prefix-points slice-aggregate-verdict-of-2 array-share-prefix-evaluations slice-aggregate-verdict-of-3
+    array-share-prefix-c slice-aggregate-verdict-of-4 array-share-prefix-z slice-aggregate-verdict-of-5 verdict-of-requires returns)

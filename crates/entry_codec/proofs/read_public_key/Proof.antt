@@ -25,24 +25,9 @@ allowed xs m k e =
     let d = passed-equal k (p .t) _ _ (b .1) in
     (omega (arith, a .0, b .0, d .0), b .0, d .0)
 
-read-public-key-refusal-requires : tie.Need-read-public-key-refusal-requires
-read-public-key-refusal-requires c κs = search needs
-
 returns : tie.Need-returns
 unfolding readPointsWritten readEvaluationsWritten
 returns c = rw (← c .before .read-public-key-refusal .ensures) (refused _ (c .if1 .taken), (kept _ _ _ (c .if1 .taken), kept _ _ _ (c .if1 .taken)))
-
-mul-at : tie.Need-mul-at
-mul-at c = search needs
-
-add-at : tie.Need-add-at
-add-at c = search needs
-
-sub-read-words : tie.Need-sub-read-words
-sub-read-words c = search needs
-
-part-read-words-start : tie.Need-part-read-words-start
-part-read-words-start c = search needs
 
 part-read-words-end : tie.Need-part-read-words-end
 part-read-words-end c =
@@ -63,9 +48,6 @@ sub-read-triples c =
 part-read-triples-start : tie.Need-part-read-triples-start
 part-read-triples-start c = sub-read-triples c
 
-part-read-triples-end : tie.Need-part-read-triples-end
-part-read-triples-end c = search needs
-
 read-triples-requires : tie.Need-read-triples-requires
 read-triples-requires c κs =
     let a = c .before .before .before .before .before .before .before .before .before .before .before .before .args in
@@ -73,12 +55,6 @@ read-triples-requires c κs =
     let m = 1 + 2 * length (a .points .now) in
     let e : length (drop m (a .bytes .now)) ≡ 3 * length (a .evaluations .now) = omega (arith, length-drop m (a .bytes .now), k .0) in
     ap length (take-rest (a .bytes .now) m) ∙ e
-
-same-length : tie.Need-same-length
-same-length c = search needs
-
-same-length-2 : tie.Need-same-length-2
-same-length-2 c = search needs
 
 returns-2 : tie.Need-returns-2
 unfolding readPointsWritten readEvaluationsWritten pointsOf evaluationsOf
@@ -97,19 +73,6 @@ returns-2 c =
 pub read-public-key-spec : {M : Type 1} → statement M
 read-public-key-spec =
     tie.close
-    (tie.spec
-    read-public-key-refusal-requires
-    returns
-    mul-at
-    add-at
-    sub-read-words
-    part-read-words-start
-    part-read-words-end
-    read-words-requires
-    sub-read-triples
-    part-read-triples-start
-    part-read-triples-end
-    read-triples-requires
-    same-length
-    same-length-2
+    (tie.spec (λ c κs. search needs) returns (λ c. search needs) (λ c. search needs) (λ c. search needs) (λ c. search needs) part-read-words-end
+    read-words-requires sub-read-triples part-read-triples-start (λ c. search needs) read-triples-requires (λ c. search needs) (λ c. search needs)
     returns-2)

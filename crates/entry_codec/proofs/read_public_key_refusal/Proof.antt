@@ -15,15 +15,9 @@ returns : tie.Need-returns
 unfolding readPublicKeyRefusal
 returns c = rw (eq-eqb _ 0 (c .if1 .taken))
 
-shared-slice-read-set : tie.Need-shared-slice-read-set
-shared-slice-read-set c = search needs
-
 returns-2 : tie.Need-returns-2
 unfolding readPublicKeyRefusal
 returns-2 c = rw (ne-eqb _ 0 (c .before .before .if1 .left), le-ltb _ 5 (c .if2 .taken))
-
-params-of-requires : tie.Need-params-of-requires
-params-of-requires c κs = search needs
 
 mul-if3 : tie.Need-mul-if3
 mul-if3 c =
@@ -90,20 +84,5 @@ returns-8 c =
 pub read-public-key-refusal-spec : {M : Type 1} → statement M
 read-public-key-refusal-spec =
     tie.close
-    (tie.spec
-    returns
-    shared-slice-read-set
-    returns-2
-    params-of-requires
-    mul-if3
-    add-if3
-    mul-if3-2
-    add-if3-2
-    returns-3
-    returns-4
-    returns-5
-    has-points-requires
-    returns-6
-    has-evaluations-requires
-    returns-7
-    returns-8)
+    (tie.spec returns (λ c. search needs) returns-2 (λ c κs. search needs) mul-if3 add-if3 mul-if3-2 add-if3-2 returns-3 returns-4 returns-5
+    has-points-requires returns-6 has-evaluations-requires returns-7 returns-8)

@@ -27,9 +27,6 @@ allowed xs room e =
     let b = passed-equal room (p .n) _ _ (a .1) in
     (omega (arith, a .0, b .0), step (isKey xs) _ Iff·rfl .0 (b .1) .0)
 
-read-secret-key-refusal-requires : tie.Need-read-secret-key-refusal-requires
-read-secret-key-refusal-requires c κs = search needs
-
 returns : tie.Need-returns
 unfolding readSecretKeyWritten
 returns c = rw (← c .before .read-secret-key-refusal .ensures) (refused _ (c .if1 .taken), kept _ _ _ (c .if1 .taken))
@@ -42,9 +39,6 @@ sub-read-coefficients c =
 part-read-coefficients-start : tie.Need-part-read-coefficients-start
 part-read-coefficients-start c = sub-read-coefficients c
 
-part-read-coefficients-end : tie.Need-part-read-coefficients-end
-part-read-coefficients-end c = search needs
-
 read-coefficients-requires : tie.Need-read-coefficients-requires
 unfolding isKey
 read-coefficients-requires c κs =
@@ -53,9 +47,6 @@ read-coefficients-requires c κs =
     let l = length-drop 1 (a .bytes .now) in
     let r = ap length (take-rest (a .bytes .now) 1) in
     (omega (arith, k .0), ap (all isKeyByte) (take-rest (a .bytes .now) 1) ∙ k .1)
-
-same-length : tie.Need-same-length
-same-length c = search needs
 
 returns-2 : tie.Need-returns-2
 unfolding readSecretKeyWritten keyOf
@@ -66,12 +57,5 @@ returns-2 c =
 pub read-secret-key-spec : {M : Type 1} → statement M
 read-secret-key-spec =
     tie.close
-    (tie.spec
-    read-secret-key-refusal-requires
-    returns
-    sub-read-coefficients
-    part-read-coefficients-start
-    part-read-coefficients-end
-    read-coefficients-requires
-    same-length
-    returns-2)
+    (tie.spec (λ c κs. search needs) returns sub-read-coefficients part-read-coefficients-start (λ c. search needs) read-coefficients-requires
+    (λ c. search needs) returns-2)

@@ -18,15 +18,9 @@ returns : tie.Need-returns
 unfolding readSecretKeyRefusal isKey
 returns c = rw (eq-eqb _ 0 (c .if1 .taken))
 
-shared-slice-read-set : tie.Need-shared-slice-read-set
-shared-slice-read-set c = search needs
-
 returns-2 : tie.Need-returns-2
 unfolding readSecretKeyRefusal isKey
 returns-2 c = rw (ne-eqb _ 0 (c .before .before .if1 .left), le-ltb _ 5 (c .if2 .taken))
-
-params-of-requires : tie.Need-params-of-requires
-params-of-requires c κs = search needs
 
 add-if3 : tie.Need-add-if3
 add-if3 c =
@@ -45,18 +39,6 @@ returns-4 c =
     let known : getD (c .before .before .before .before .before .before .before .args .bytes .now) 0 0 < 5 = omega arith in
     rw (ne-eqb _ 0 (c .before .before .before .before .before .if1 .left), lt-ltb _ 5 known, ← c .before .before .params-of .ensures, eq-eqb _ _ (c .before .if3 .left), ne-eqb _ _ (c .if4 .taken))
 
-sub-are-key-bytes : tie.Need-sub-are-key-bytes
-sub-are-key-bytes c = search needs
-
-part-are-key-bytes-start : tie.Need-part-are-key-bytes-start
-part-are-key-bytes-start c = search needs
-
-part-are-key-bytes-end : tie.Need-part-are-key-bytes-end
-part-are-key-bytes-end c = search needs
-
-are-key-bytes-requires : tie.Need-are-key-bytes-requires
-are-key-bytes-requires c κs = search needs
-
 returns-5 : tie.Need-returns-5
 unfolding readSecretKeyRefusal isKey
 returns-5 c =
@@ -72,17 +54,5 @@ returns-6 c =
 pub read-secret-key-refusal-spec : {M : Type 1} → statement M
 read-secret-key-refusal-spec =
     tie.close
-    (tie.spec
-    returns
-    shared-slice-read-set
-    returns-2
-    params-of-requires
-    add-if3
-    returns-3
-    returns-4
-    sub-are-key-bytes
-    part-are-key-bytes-start
-    part-are-key-bytes-end
-    are-key-bytes-requires
-    returns-5
-    returns-6)
+    (tie.spec returns (λ c. search needs) returns-2 (λ c κs. search needs) add-if3 returns-3 returns-4 (λ c. search needs) (λ c. search needs)
+    (λ c. search needs) (λ c κs. search needs) returns-5 returns-6)

@@ -25,24 +25,9 @@ allowed xs m k e =
     let d = passed-equal k (p .n) _ _ (b .1) in
     (omega (arith, a .0, b .0, d .0), b .0, d .0)
 
-read-signature-refusal-requires : tie.Need-read-signature-refusal-requires
-read-signature-refusal-requires c κs = search needs
-
 returns : tie.Need-returns
 unfolding readEntriesWritten readPointWritten
 returns c = rw (← c .before .read-signature-refusal .ensures) (refused _ (c .if1 .taken), (kept _ _ _ (c .if1 .taken), kept _ _ _ (c .if1 .taken)))
-
-mul-at : tie.Need-mul-at
-mul-at c = search needs
-
-add-at : tie.Need-add-at
-add-at c = search needs
-
-sub-read-words : tie.Need-sub-read-words
-sub-read-words c = search needs
-
-part-read-words-start : tie.Need-part-read-words-start
-part-read-words-start c = search needs
 
 part-read-words-end : tie.Need-part-read-words-end
 part-read-words-end c =
@@ -63,9 +48,6 @@ sub-read-signed-words c =
 part-read-signed-words-start : tie.Need-part-read-signed-words-start
 part-read-signed-words-start c = sub-read-signed-words c
 
-part-read-signed-words-end : tie.Need-part-read-signed-words-end
-part-read-signed-words-end c = search needs
-
 read-signed-words-requires : tie.Need-read-signed-words-requires
 read-signed-words-requires c κs =
     let a = c .before .before .before .before .before .before .before .before .before .before .before .args in
@@ -73,12 +55,6 @@ read-signed-words-requires c κs =
     let m = 1 + 2 * length (a .entries .now) in
     let e : length (drop m (a .bytes .now)) ≡ 2 * length (a .z .now) = omega (arith, length-drop m (a .bytes .now), k .0) in
     ap length (take-rest (a .bytes .now) m) ∙ e
-
-same-length : tie.Need-same-length
-same-length c = search needs
-
-same-length-2 : tie.Need-same-length-2
-same-length-2 c = search needs
 
 returns-2 : tie.Need-returns-2
 unfolding readEntriesWritten readPointWritten entriesRead pointRead
@@ -97,19 +73,6 @@ returns-2 c =
 pub read-signature-spec : {M : Type 1} → statement M
 read-signature-spec =
     tie.close
-    (tie.spec
-    read-signature-refusal-requires
-    returns
-    mul-at
-    add-at
-    sub-read-words
-    part-read-words-start
-    part-read-words-end
-    read-words-requires
-    sub-read-signed-words
-    part-read-signed-words-start
-    part-read-signed-words-end
-    read-signed-words-requires
-    same-length
-    same-length-2
-    returns-2)
+    (tie.spec (λ c κs. search needs) returns (λ c. search needs) (λ c. search needs) (λ c. search needs) (λ c. search needs) part-read-words-end
+    read-words-requires sub-read-signed-words part-read-signed-words-start (λ c. search needs) read-signed-words-requires (λ c. search needs)
+    (λ c. search needs) returns-2)

@@ -15,15 +15,9 @@ returns : tie.Need-returns
 unfolding readSignatureRefusal
 returns c = rw (eq-eqb _ 0 (c .if1 .taken))
 
-shared-slice-read-set : tie.Need-shared-slice-read-set
-shared-slice-read-set c = search needs
-
 returns-2 : tie.Need-returns-2
 unfolding readSignatureRefusal
 returns-2 c = rw (ne-eqb _ 0 (c .before .before .if1 .left), le-ltb _ 5 (c .if2 .taken))
-
-params-of-requires : tie.Need-params-of-requires
-params-of-requires c κs = search needs
 
 mul-if3 : tie.Need-mul-if3
 mul-if3 c =
@@ -81,18 +75,5 @@ returns-7 c =
 pub read-signature-refusal-spec : {M : Type 1} → statement M
 read-signature-refusal-spec =
     tie.close
-    (tie.spec
-    returns
-    shared-slice-read-set
-    returns-2
-    params-of-requires
-    mul-if3
-    add-if3
-    mul-if3-2
-    add-if3-2
-    returns-3
-    returns-4
-    returns-5
-    has-entries-requires
-    returns-6
-    returns-7)
+    (tie.spec returns (λ c. search needs) returns-2 (λ c κs. search needs) mul-if3 add-if3 mul-if3-2 add-if3-2 returns-3 returns-4 returns-5
+    has-entries-requires returns-6 returns-7)

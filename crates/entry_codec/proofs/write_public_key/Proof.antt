@@ -22,9 +22,6 @@ allowed s points evaluations room e =
     let d = passed-equal room (publicKeySize p) _ _ (b .1) in
     omega (arith, a .0, b .0, d .0)
 
-write-public-key-refusal-requires : tie.Need-write-public-key-refusal-requires
-write-public-key-refusal-requires c κs = search needs
-
 returns : tie.Need-returns
 unfolding writePublicKeyWritten
 returns c = rw (← c .before .write-public-key-refusal .ensures) (refused _ (c .if1 .taken), kept _ _ _ (c .if1 .taken))
@@ -34,19 +31,9 @@ put-public-key-requires c κs =
     let a = c .before .before .before .before .before .before .args in
     allowed (a .set) (a .points .now) (a .evaluations .now) (length (a .out .now)) (sym (c .before .before .write-public-key-refusal .ensures) ∙ c .before .if1 .left)
 
-same-length : tie.Need-same-length
-same-length c = search needs
-
 returns-2 : tie.Need-returns-2
 unfolding writePublicKeyWritten
 returns-2 c = rw (← c .before .before .before .before .before .write-public-key-refusal .ensures, c .before .before .before .before .if1 .left) (refl, c .before .before .put-public-key .ensures)
 
 pub write-public-key-spec : {M : Type 1} → statement M
-write-public-key-spec =
-    tie.close
-    (tie.spec
-    write-public-key-refusal-requires
-    returns
-    put-public-key-requires
-    same-length
-    returns-2)
+write-public-key-spec = tie.close (tie.spec (λ c κs. search needs) returns put-public-key-requires (λ c. search needs) returns-2)

@@ -14,9 +14,6 @@ returns : tie.Need-returns
 unfolding writePublicKeyRefusal
 returns c = rw (le-ltb _ 5 (c .if1 .taken))
 
-params-of-requires : tie.Need-params-of-requires
-params-of-requires c κs = search needs
-
 returns-2 : tie.Need-returns-2
 unfolding writePublicKeyRefusal
 returns-2 c =
@@ -55,17 +52,11 @@ returns-4 c =
     let known : c .before .before .before .before .before .before .before .args .set < 5 = omega arith in
     rw (lt-ltb _ 5 known, ← c .before .before .before .params-of .ensures, eq-eqb _ _ (c .before .before .if2 .left), eq-eqb _ _ (c .before .if3 .left), ne-eqb _ _ (c .if4 .taken))
 
-are-points-requires : tie.Need-are-points-requires
-are-points-requires c κs = search needs
-
 returns-5 : tie.Need-returns-5
 unfolding writePublicKeyRefusal
 returns-5 c =
     let known : c .before .before .before .before .before .before .before .before .before .args .set < 5 = omega arith in
     rw (lt-ltb _ 5 known, ← c .before .before .before .before .before .params-of .ensures, eq-eqb _ _ (c .before .before .before .before .if2 .left), eq-eqb _ _ (c .before .before .before .if3 .left), eq-eqb _ _ (c .before .before .if4 .left), sym (c .before .are-points .ensures) ∙ not-true _ (c .if5 .taken))
-
-are-below-requires : tie.Need-are-below-requires
-are-below-requires c κs = search needs
 
 returns-6 : tie.Need-returns-6
 unfolding writePublicKeyRefusal
@@ -82,18 +73,5 @@ returns-7 c =
 pub write-public-key-refusal-spec : {M : Type 1} → statement M
 write-public-key-refusal-spec =
     tie.close
-    (tie.spec
-    returns
-    params-of-requires
-    returns-2
-    returns-3
-    mul-if4
-    add-if4
-    mul-if4-2
-    add-if4-2
-    returns-4
-    are-points-requires
-    returns-5
-    are-below-requires
-    returns-6
-    returns-7)
+    (tie.spec returns (λ c κs. search needs) returns-2 returns-3 mul-if4 add-if4 mul-if4-2 add-if4-2 returns-4 (λ c κs. search needs) returns-5
+    (λ c κs. search needs) returns-6 returns-7)

@@ -22,9 +22,6 @@ allowed s f room e =
     let b = passed-equal room (secretKeySize p) _ _ (a .1) in
     omega (arith, a .0, b .0)
 
-write-secret-key-refusal-requires : tie.Need-write-secret-key-refusal-requires
-write-secret-key-refusal-requires c κs = search needs
-
 returns : tie.Need-returns
 unfolding writeSecretKeyWritten
 returns c = rw (← c .before .write-secret-key-refusal .ensures) (refused _ (c .if1 .taken), kept _ _ _ (c .if1 .taken))
@@ -34,19 +31,9 @@ put-secret-key-requires c κs =
     let a = c .before .before .before .before .args in
     allowed (a .set) (a .f .now) (length (a .out .now)) (sym (c .before .before .write-secret-key-refusal .ensures) ∙ c .before .if1 .left)
 
-same-length : tie.Need-same-length
-same-length c = search needs
-
 returns-2 : tie.Need-returns-2
 unfolding writeSecretKeyWritten
 returns-2 c = rw (← c .before .before .before .before .before .write-secret-key-refusal .ensures, c .before .before .before .before .if1 .left) (refl, c .before .before .put-secret-key .ensures)
 
 pub write-secret-key-spec : {M : Type 1} → statement M
-write-secret-key-spec =
-    tie.close
-    (tie.spec
-    write-secret-key-refusal-requires
-    returns
-    put-secret-key-requires
-    same-length
-    returns-2)
+write-secret-key-spec = tie.close (tie.spec (λ c κs. search needs) returns put-secret-key-requires (λ c. search needs) returns-2)

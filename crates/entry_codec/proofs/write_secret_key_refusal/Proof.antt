@@ -14,9 +14,6 @@ returns : tie.Need-returns
 unfolding writeSecretKeyRefusal
 returns c = rw (le-ltb _ 5 (c .if1 .taken))
 
-params-of-requires : tie.Need-params-of-requires
-params-of-requires c κs = search needs
-
 returns-2 : tie.Need-returns-2
 unfolding writeSecretKeyRefusal
 returns-2 c =
@@ -34,9 +31,6 @@ returns-3 c =
     let known : c .before .before .before .before .args .set < 5 = omega arith in
     rw (lt-ltb _ 5 known, ← c .before .before .params-of .ensures, eq-eqb _ _ (c .before .if2 .left), ne-eqb _ _ (c .if3 .taken))
 
-is-ternary-requires : tie.Need-is-ternary-requires
-is-ternary-requires c κs = search needs
-
 returns-4 : tie.Need-returns-4
 unfolding writeSecretKeyRefusal
 returns-4 c =
@@ -51,13 +45,4 @@ returns-5 c =
 
 pub write-secret-key-refusal-spec : {M : Type 1} → statement M
 write-secret-key-refusal-spec =
-    tie.close
-    (tie.spec
-    returns
-    params-of-requires
-    returns-2
-    add-if3
-    returns-3
-    is-ternary-requires
-    returns-4
-    returns-5)
+    tie.close (tie.spec returns (λ c κs. search needs) returns-2 add-if3 returns-3 (λ c κs. search needs) returns-4 returns-5)

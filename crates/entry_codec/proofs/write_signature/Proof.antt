@@ -23,9 +23,6 @@ allowed s entries z room e =
     let d = passed-equal room (signatureSize p) _ _ (b .1) in
     omega (arith, a .0, b .0, d .0)
 
-write-signature-refusal-requires : tie.Need-write-signature-refusal-requires
-write-signature-refusal-requires c κs = search needs
-
 returns : tie.Need-returns
 unfolding writeSignatureWritten
 returns c = rw (← c .before .write-signature-refusal .ensures) (refused _ (c .if1 .taken), kept _ _ _ (c .if1 .taken))
@@ -35,19 +32,9 @@ put-signature-requires c κs =
     let a = c .before .before .before .before .before .args in
     allowed (a .set) (a .entries .now) (a .z .now) (length (a .out .now)) (sym (c .before .before .write-signature-refusal .ensures) ∙ c .before .if1 .left)
 
-same-length : tie.Need-same-length
-same-length c = search needs
-
 returns-2 : tie.Need-returns-2
 unfolding writeSignatureWritten
 returns-2 c = rw (← c .before .before .before .before .before .write-signature-refusal .ensures, c .before .before .before .before .if1 .left) (refl, c .before .before .put-signature .ensures)
 
 pub write-signature-spec : {M : Type 1} → statement M
-write-signature-spec =
-    tie.close
-    (tie.spec
-    write-signature-refusal-requires
-    returns
-    put-signature-requires
-    same-length
-    returns-2)
+write-signature-spec = tie.close (tie.spec (λ c κs. search needs) returns put-signature-requires (λ c. search needs) returns-2)

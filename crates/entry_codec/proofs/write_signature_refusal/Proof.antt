@@ -14,9 +14,6 @@ returns : tie.Need-returns
 unfolding writeSignatureRefusal
 returns c = rw (le-ltb _ 5 (c .if1 .taken))
 
-params-of-requires : tie.Need-params-of-requires
-params-of-requires c κs = search needs
-
 returns-2 : tie.Need-returns-2
 unfolding writeSignatureRefusal
 returns-2 c =
@@ -55,9 +52,6 @@ returns-4 c =
     let known : c .before .before .before .before .before .before .args .set < 5 = omega arith in
     rw (lt-ltb _ 5 known, ← c .before .before .before .params-of .ensures, eq-eqb _ _ (c .before .before .if2 .left), eq-eqb _ _ (c .before .if3 .left), ne-eqb _ _ (c .if4 .taken))
 
-are-entries-of-requires : tie.Need-are-entries-of-requires
-are-entries-of-requires c κs = search needs
-
 returns-5 : tie.Need-returns-5
 unfolding writeSignatureRefusal
 returns-5 c =
@@ -73,16 +67,4 @@ returns-6 c =
 pub write-signature-refusal-spec : {M : Type 1} → statement M
 write-signature-refusal-spec =
     tie.close
-    (tie.spec
-    returns
-    params-of-requires
-    returns-2
-    returns-3
-    mul-if4
-    add-if4
-    mul-if4-2
-    add-if4-2
-    returns-4
-    are-entries-of-requires
-    returns-5
-    returns-6)
+    (tie.spec returns (λ c κs. search needs) returns-2 returns-3 mul-if4 add-if4 mul-if4-2 add-if4-2 returns-4 (λ c κs. search needs) returns-5 returns-6)

@@ -29,9 +29,6 @@ key-test c =
     let key = c .before .before .before .before .before .before .before .before .before .before .before .before .args .key .now in
     sym (c .are-key-bytes .ensures ∙ ap (all isKeyByte) (take-rest key 1))
 
-add-if1 : tie.Need-add-if1
-add-if1 c = search needs
-
 returns : tie.Need-returns
 unfolding signRefusalIn
 returns c = rw (ne-eqb _ _ (c .if1 .taken))
@@ -40,26 +37,11 @@ returns-2 : tie.Need-returns-2
 unfolding signRefusalIn
 returns-2 c = rw (eq-eqb _ _ (c .before .if1 .left), ne-eqb _ _ (c .if2 .taken))
 
-are-masks-requires : tie.Need-are-masks-requires
-are-masks-requires c κs = search needs
-
 returns-3 : tie.Need-returns-3
 unfolding signRefusalIn
 returns-3 c =
     let s = c .before .before in
     rw (eq-eqb _ _ (s .before .if1 .left), eq-eqb _ _ (s .if2 .left), masks-test (c .before) ∙ not-true _ (c .if3 .taken))
-
-mul-if4 : tie.Need-mul-if4
-mul-if4 c = search needs
-
-add-if4 : tie.Need-add-if4
-add-if4 c = search needs
-
-mul-if4-2 : tie.Need-mul-if4-2
-mul-if4-2 c = search needs
-
-add-if4-2 : tie.Need-add-if4-2
-add-if4-2 c = search needs
 
 returns-4 : tie.Need-returns-4
 unfolding signRefusalIn
@@ -67,9 +49,6 @@ returns-4 c =
     let r = c .before .before in
     let s = r .before .before in
     rw (eq-eqb _ _ (s .before .if1 .left), eq-eqb _ _ (s .if2 .left), masks-test (r .before) ∙ not-false _ (r .if3 .left), ne-eqb _ _ (c .if4 .taken))
-
-are-points-requires : tie.Need-are-points-requires
-are-points-requires c κs = search needs
 
 -- the lengths are allowed
 lengths : (c : tie.Else4) {x : ℕ} →
@@ -85,25 +64,10 @@ lengths c e =
 returns-5 : tie.Need-returns-5
 returns-5 c = lengths (c .before .before) (rw (points-test (c .before) ∙ not-true _ (c .if5 .taken)))
 
-sub-are-key-bytes : tie.Need-sub-are-key-bytes
-sub-are-key-bytes c = search needs
-
-part-are-key-bytes-start : tie.Need-part-are-key-bytes-start
-part-are-key-bytes-start c = search needs
-
-part-are-key-bytes-end : tie.Need-part-are-key-bytes-end
-part-are-key-bytes-end c = search needs
-
-are-key-bytes-requires : tie.Need-are-key-bytes-requires
-are-key-bytes-requires c κs = search needs
-
 returns-6 : tie.Need-returns-6
 returns-6 c =
     let p = c .before .before .before in
     lengths (p .before .before) (rw (points-test (p .before) ∙ not-false _ (p .if5 .left), key-test (c .before) ∙ not-true _ (c .if6 .taken)))
-
-in-range16-requires : tie.Need-in-range16-requires
-in-range16-requires c κs = search needs
 
 returns-7 : tie.Need-returns-7
 returns-7 c =
@@ -122,24 +86,6 @@ returns-8 c =
 pub refusal-in-spec : {M : Type 1} → statement M
 refusal-in-spec =
     tie.close
-    (tie.spec
-    add-if1
-    returns
-    returns-2
-    are-masks-requires
-    returns-3
-    mul-if4
-    add-if4
-    mul-if4-2
-    add-if4-2
-    returns-4
-    are-points-requires
-    returns-5
-    sub-are-key-bytes
-    part-are-key-bytes-start
-    part-are-key-bytes-end
-    are-key-bytes-requires
-    returns-6
-    in-range16-requires
-    returns-7
-    returns-8)
+    (tie.spec (λ c. search needs) returns returns-2 (λ c κs. search needs) returns-3 (λ c. search needs) (λ c. search needs) (λ c. search needs)
+    (λ c. search needs) returns-4 (λ c κs. search needs) returns-5 (λ c. search needs) (λ c. search needs) (λ c. search needs) (λ c κs. search needs)
+    returns-6 (λ c κs. search needs) returns-7 returns-8)

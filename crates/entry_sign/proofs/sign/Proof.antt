@@ -18,22 +18,10 @@ returns-2 : tie.Need-returns-2
 unfolding signAnswer signWritten
 returns-2 c = rw (le-ltb 65535 _ (c .before .if1 .left), eq-eqb _ 0 (c .if2 .taken)) (refl, refl)
 
-shared-slice-read-set : tie.Need-shared-slice-read-set
-shared-slice-read-set c = search needs
-
 returns-3 : tie.Need-returns-3
 unfolding signAnswer signWritten
 returns-3 c =
     let s = c .before .before in rw (le-ltb 65535 _ (s .before .if1 .left), ne-eqb _ 0 (s .if2 .left), le-ltb _ 5 (c .if3 .taken)) (refl, refl)
-
-params-of-requires : tie.Need-params-of-requires
-params-of-requires c κs = search needs
-
-sign-in-requires : tie.Need-sign-in-requires
-sign-in-requires c κs = search needs
-
-same-length : tie.Need-same-length
-same-length c = search needs
 
 returns-4 : tie.Need-returns-4
 unfolding signAnswer signWritten
@@ -45,5 +33,4 @@ returns-4 c =
 
 pub sign-spec : {M : Type 1} → statement M
 sign-spec =
-    tie.close
-    (tie.spec returns returns-2 shared-slice-read-set returns-3 params-of-requires sign-in-requires same-length returns-4)
+    tie.close (tie.spec returns returns-2 (λ c. search needs) returns-3 (λ c κs. search needs) (λ c κs. search needs) (λ c. search needs) returns-4)

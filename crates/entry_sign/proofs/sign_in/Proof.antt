@@ -75,9 +75,6 @@ returns c = rw (← c .before .refusal-in .ensures, ne-eqb _ 0 (c .if1 .taken)) 
 coefficients-of-requires : tie.Need-coefficients-of-requires
 coefficients-of-requires c κs = (allowed c .key-size, fitting (start c) .size)
 
-powers-of-requires : tie.Need-powers-of-requires
-powers-of-requires c κs = search needs
-
 array-share-prefix-table : tie.Need-array-share-prefix-table
 array-share-prefix-table c = let f = fitting (start (c .before .before)) .size in search needs
 
@@ -144,9 +141,6 @@ cast-number c =
     let few : length (s .masks .now) / s .p .n ≤ 8 = div-le-of-le-mul (s .p .n) (omega (arith, few-masks e)) in
     omega arith
 
-same-length : tie.Need-same-length
-same-length c = search needs
-
 returns-2 : tie.Need-returns-2
 unfolding signAnswerIn signWrittenIn
 returns-2 c =
@@ -155,9 +149,6 @@ returns-2 c =
       answer-signed (signedBy drawChallenge (s .p) (keyOf (s .key .now)) (s .points .now) (s .masks .now) (s .message .now)) (length (s .masks .now) / s .p .n) (says (c .before)) (c .if2 .taken),
       writes (c .before),
     )
-
-same-length-2 : tie.Need-same-length-2
-same-length-2 c = search needs
 
 returns-3 : tie.Need-returns-3
 unfolding signAnswerIn signWrittenIn
@@ -172,19 +163,5 @@ returns-3 c =
 pub sign-in-spec : {M : Type 1} → statement M
 sign-in-spec =
     tie.close
-    (tie.spec
-    refusal-in-requires
-    returns
-    coefficients-of-requires
-    powers-of-requires
-    array-share-prefix-table
-    slice-aggregate-sign-first
-    array-share-prefix-f
-    slice-aggregate-sign-first-2
-    sign-first-requires
-    div-if2
-    cast-number
-    same-length
-    returns-2
-    same-length-2
-    returns-3)
+    (tie.spec refusal-in-requires returns coefficients-of-requires (λ c κs. search needs) array-share-prefix-table slice-aggregate-sign-first
+    array-share-prefix-f slice-aggregate-sign-first-2 sign-first-requires div-if2 cast-number (λ c. search needs) returns-2 (λ c. search needs) returns-3)

@@ -29,5 +29,4 @@ returns-3 c =
     rw z
 
 pub coefficient-of-spec : {M : Type 1} → statement M
-coefficient-of-spec =
-    tie.close (tie.spec returns returns-2 returns-3)
+coefficient-of-spec = tie.close (tie.spec returns returns-2 returns-3)

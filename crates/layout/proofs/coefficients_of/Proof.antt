@@ -17,18 +17,6 @@ use Rattle.layout.proofs.coefficients_of.Tie as tie
 key-bytes : (key : List ℕ) (n : ℕ) → length key ≡ 1 + n → length (take (length key - 1) (drop 1 key)) ≡ n
 key-bytes key n e = ap length (take-rest key 1) ∙ omega (arith, length-drop 1 key)
 
-sub-read-key : tie.Need-sub-read-key
-sub-read-key c = search needs
-
-part-read-key-start : tie.Need-part-read-key-start
-part-read-key-start c = search needs
-
-part-read-key-end : tie.Need-part-read-key-end
-part-read-key-end c = search needs
-
-array-borrow-prefix-f : tie.Need-array-borrow-prefix-f
-array-borrow-prefix-f c = search needs
-
 slice-aggregate-read-key : tie.Need-slice-aggregate-read-key
 slice-aggregate-read-key c =
     let s = c .before .before .before in
@@ -51,11 +39,4 @@ returns c =
 pub coefficients-of-spec : {M : Type 1} → statement M
 coefficients-of-spec =
     tie.close
-    (tie.spec
-    sub-read-key
-    part-read-key-start
-    part-read-key-end
-    array-borrow-prefix-f
-    slice-aggregate-read-key
-    read-key-requires
-    returns)
+    (tie.spec (λ c. search needs) (λ c. search needs) (λ c. search needs) (λ c. search needs) slice-aggregate-read-key read-key-requires returns)

@@ -13,20 +13,11 @@ use Rattle.encoding.proofs.Parts.{take-rest}
 use Rattle.layout.proofs.evaluations_of.Statement.{statement}
 use Rattle.layout.proofs.evaluations_of.Tie as tie
 
-mul-at : tie.Need-mul-at
-mul-at c = search needs
-
-add-at : tie.Need-add-at
-add-at c = search needs
-
 sub-read-triples : tie.Need-sub-read-triples
 sub-read-triples c = omega (arith, c .before .pre .1)
 
 part-read-triples-start : tie.Need-part-read-triples-start
 part-read-triples-start c = sub-read-triples c
-
-part-read-triples-end : tie.Need-part-read-triples-end
-part-read-triples-end c = search needs
 
 array-borrow-prefix-values : tie.Need-array-borrow-prefix-values
 array-borrow-prefix-values c = omega (arith, c .before .before .pre .0 .size, c .before .before .pre .0 .points)
@@ -54,13 +45,5 @@ returns c =
 pub evaluations-of-spec : {M : Type 1} → statement M
 evaluations-of-spec =
     tie.close
-    (tie.spec
-    mul-at
-    add-at
-    sub-read-triples
-    part-read-triples-start
-    part-read-triples-end
-    array-borrow-prefix-values
-    slice-aggregate-read-triples
-    read-triples-requires
-    returns)
+    (tie.spec (λ c. search needs) (λ c. search needs) sub-read-triples part-read-triples-start (λ c. search needs) array-borrow-prefix-values
+    slice-aggregate-read-triples read-triples-requires returns)

@@ -8,17 +8,11 @@ use Rattle.encoding.specs.Encoding.{entriesRead}
 use Rattle.layout.proofs.has_entries.Statement.{statement}
 use Rattle.layout.proofs.has_entries.Tie as tie
 
-words-of-requires : tie.Need-words-of-requires
-words-of-requires c κs = search needs
-
 array-share-prefix-entries : tie.Need-array-share-prefix-entries
 array-share-prefix-entries c = search needs
 
 slice-aggregate-are-entries-of : tie.Need-slice-aggregate-are-entries-of
 slice-aggregate-are-entries-of c = sym (length-take-le _ (c .before .words-of .result) (array-share-prefix-entries (c .before)))
-
-are-entries-of-requires : tie.Need-are-entries-of-requires
-are-entries-of-requires c κs = search needs
 
 returns : tie.Need-returns
 unfolding entriesRead
@@ -26,10 +20,4 @@ returns c = c .are-entries-of .ensures ∙ ap (areEntries (c .before .before .be
 
 pub has-entries-spec : {M : Type 1} → statement M
 has-entries-spec =
-    tie.close
-    (tie.spec
-    words-of-requires
-    array-share-prefix-entries
-    slice-aggregate-are-entries-of
-    are-entries-of-requires
-    returns)
+    tie.close (tie.spec (λ c κs. search needs) array-share-prefix-entries slice-aggregate-are-entries-of (λ c κs. search needs) returns)

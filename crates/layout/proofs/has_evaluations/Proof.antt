@@ -7,27 +7,14 @@ use Rattle.encoding.specs.Encoding.{areEvaluations}
 use Rattle.layout.proofs.has_evaluations.Statement.{statement}
 use Rattle.layout.proofs.has_evaluations.Tie as tie
 
-evaluations-of-requires : tie.Need-evaluations-of-requires
-evaluations-of-requires c κs = search needs
-
 array-share-prefix-values : tie.Need-array-share-prefix-values
 array-share-prefix-values c = search needs
 
 slice-aggregate-are-below : tie.Need-slice-aggregate-are-below
 slice-aggregate-are-below c = sym (length-take-le _ (c .before .evaluations-of .result) (array-share-prefix-values (c .before)))
 
-are-below-requires : tie.Need-are-below-requires
-are-below-requires c κs = search needs
-
 returns : tie.Need-returns
 returns c = c .are-below .ensures ∙ ap (areEvaluations (c .before .before .before .before .args .p)) (c .before .before .evaluations-of .ensures)
 
 pub has-evaluations-spec : {M : Type 1} → statement M
-has-evaluations-spec =
-    tie.close
-    (tie.spec
-    evaluations-of-requires
-    array-share-prefix-values
-    slice-aggregate-are-below
-    are-below-requires
-    returns)
+has-evaluations-spec = tie.close (tie.spec (λ c κs. search needs) array-share-prefix-values slice-aggregate-are-below (λ c κs. search needs) returns)

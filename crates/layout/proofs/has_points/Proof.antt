@@ -7,28 +7,15 @@ use Rattle.encoding.specs.Encoding.{arePoints, pointsOf}
 use Rattle.layout.proofs.has_points.Statement.{statement}
 use Rattle.layout.proofs.has_points.Tie as tie
 
-words-of-requires : tie.Need-words-of-requires
-words-of-requires c κs = search needs
-
 array-share-prefix-points : tie.Need-array-share-prefix-points
 array-share-prefix-points c = search needs
 
 slice-aggregate-are-points : tie.Need-slice-aggregate-are-points
 slice-aggregate-are-points c = sym (length-take-le _ (c .before .words-of .result) (array-share-prefix-points (c .before)))
 
-are-points-requires : tie.Need-are-points-requires
-are-points-requires c κs = search needs
-
 returns : tie.Need-returns
 unfolding pointsOf
 returns c = c .are-points .ensures ∙ ap (arePoints (c .before .before .before .before .args .p)) (c .before .before .words-of .ensures)
 
 pub has-points-spec : {M : Type 1} → statement M
-has-points-spec =
-    tie.close
-    (tie.spec
-    words-of-requires
-    array-share-prefix-points
-    slice-aggregate-are-points
-    are-points-requires
-    returns)
+has-points-spec = tie.close (tie.spec (λ c κs. search needs) array-share-prefix-points slice-aggregate-are-points (λ c κs. search needs) returns)

@@ -28,20 +28,8 @@ abbrev μ-loop : tie.MeasureT-loop
 loop-holds : tie.Need-loop-holds Inv-loop μ-loop
 loop-holds c = (search needs, refl)
 
-shared-slice-copy-out-is-within : tie.Need-shared-slice-copy-out-is-within Inv-loop μ-loop
-shared-slice-copy-out-is-within c = omega arith
-
 cast-is-within : tie.Need-cast-is-within Inv-loop μ-loop
 cast-is-within c = fits-wider w8 w32 tt (c .before .before .before .args .f .now) (c .before .before .loop .i) (c .is-within-arg .given)
-
-is-within-requires : tie.Need-is-within-requires Inv-loop μ-loop
-is-within-requires c κs = search needs
-
-add-i : tie.Need-add-i Inv-loop μ-loop
-add-i c = omega arith
-
-loop-less : tie.Need-loop-less Inv-loop μ-loop
-loop-less c = omega arith
 
 loop-again : tie.Need-loop-again Inv-loop μ-loop
 loop-again c =
@@ -58,14 +46,4 @@ returns c =
 pub is-ternary-spec : {M : Type 1} → statement M
 is-ternary-spec =
     tie.close
-    (tie.spec
-    Inv-loop
-    μ-loop
-    loop-holds
-    shared-slice-copy-out-is-within
-    cast-is-within
-    is-within-requires
-    add-i
-    loop-less
-    loop-again
-    returns)
+    (tie.spec Inv-loop μ-loop loop-holds (λ c. omega arith) cast-is-within (λ c κs. search needs) (λ c. omega arith) (λ c. omega arith) loop-again returns)

@@ -12,28 +12,10 @@ use Rattle.encoding.proofs.Buffer.{end-length, whole}
 use Rattle.layout.proofs.put_public_key.Statement.{statement}
 use Rattle.layout.proofs.put_public_key.Tie as tie
 
-slice-write-out : tie.Need-slice-write-out
-slice-write-out c = search needs
-
-mul-at : tie.Need-mul-at
-mul-at c = search needs
-
-add-at : tie.Need-add-at
-add-at c = search needs
-
-sub-write-words : tie.Need-sub-write-words
-sub-write-words c = search needs
-
-part-write-words-start : tie.Need-part-write-words-start
-part-write-words-start c = search needs
-
 part-write-words-end : tie.Need-part-write-words-end
 part-write-words-end c =
     let s = c .before .before .before in
     omega (arith, length-set (s .args .out .now) 0 (s .args .set))
-
-write-words-requires : tie.Need-write-words-requires
-write-words-requires c κs = search needs
 
 sub-write-triples : tie.Need-sub-write-triples
 sub-write-triples c =
@@ -42,9 +24,6 @@ sub-write-triples c =
 
 part-write-triples-start : tie.Need-part-write-triples-start
 part-write-triples-start c = sub-write-triples c
-
-part-write-triples-end : tie.Need-part-write-triples-end
-part-write-triples-end c = search needs
 
 write-triples-requires : tie.Need-write-triples-requires
 write-triples-requires c κs =
@@ -71,17 +50,5 @@ returns c =
 pub put-public-key-spec : {M : Type 1} → statement M
 put-public-key-spec =
     tie.close
-    (tie.spec
-    slice-write-out
-    mul-at
-    add-at
-    sub-write-words
-    part-write-words-start
-    part-write-words-end
-    write-words-requires
-    sub-write-triples
-    part-write-triples-start
-    part-write-triples-end
-    write-triples-requires
-    same-length
-    returns)
+    (tie.spec (λ c. search needs) (λ c. search needs) (λ c. search needs) (λ c. search needs) (λ c. search needs) part-write-words-end
+    (λ c κs. search needs) sub-write-triples part-write-triples-start (λ c. search needs) write-triples-requires same-length returns)

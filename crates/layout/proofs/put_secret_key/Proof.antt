@@ -18,9 +18,6 @@ headed [] v s h = absurd (omega arith)
 headed (x ∷ out) v s h =
     ap (λ (l : List ℕ). s ∷ (v ++ l)) (drop-of-length-le out {i = length (s ∷ out) - 1} (omega arith)) ∙ ap (λ (l : List ℕ). s ∷ l) (append-nil v)
 
-slice-write-out : tie.Need-slice-write-out
-slice-write-out c = search needs
-
 sub-write-key : tie.Need-sub-write-key
 sub-write-key c =
     let s = c .before in
@@ -28,9 +25,6 @@ sub-write-key c =
 
 part-write-key-start : tie.Need-part-write-key-start
 part-write-key-start c = sub-write-key c
-
-part-write-key-end : tie.Need-part-write-key-end
-part-write-key-end c = search needs
 
 write-key-requires : tie.Need-write-key-requires
 write-key-requires c κs =
@@ -53,12 +47,4 @@ returns c =
 
 pub put-secret-key-spec : {M : Type 1} → statement M
 put-secret-key-spec =
-    tie.close
-    (tie.spec
-    slice-write-out
-    sub-write-key
-    part-write-key-start
-    part-write-key-end
-    write-key-requires
-    same-length
-    returns)
+    tie.close (tie.spec (λ c. search needs) sub-write-key part-write-key-start (λ c. search needs) write-key-requires same-length returns)

@@ -12,28 +12,10 @@ use Rattle.encoding.proofs.Buffer.{end-length, whole}
 use Rattle.layout.proofs.put_signature.Statement.{statement}
 use Rattle.layout.proofs.put_signature.Tie as tie
 
-slice-write-out : tie.Need-slice-write-out
-slice-write-out c = search needs
-
-mul-at : tie.Need-mul-at
-mul-at c = search needs
-
-add-at : tie.Need-add-at
-add-at c = search needs
-
-sub-write-words : tie.Need-sub-write-words
-sub-write-words c = search needs
-
-part-write-words-start : tie.Need-part-write-words-start
-part-write-words-start c = search needs
-
 part-write-words-end : tie.Need-part-write-words-end
 part-write-words-end c =
     let s = c .before .before in
     omega (arith, length-set (s .args .out .now) 0 (s .args .set))
-
-write-words-requires : tie.Need-write-words-requires
-write-words-requires c κs = search needs
 
 sub-write-signed-words16 : tie.Need-sub-write-signed-words16
 sub-write-signed-words16 c =
@@ -42,9 +24,6 @@ sub-write-signed-words16 c =
 
 part-write-signed-words16-start : tie.Need-part-write-signed-words16-start
 part-write-signed-words16-start c = sub-write-signed-words16 c
-
-part-write-signed-words16-end : tie.Need-part-write-signed-words16-end
-part-write-signed-words16-end c = search needs
 
 write-signed-words16-requires : tie.Need-write-signed-words16-requires
 write-signed-words16-requires c κs =
@@ -71,17 +50,5 @@ returns c =
 pub put-signature-spec : {M : Type 1} → statement M
 put-signature-spec =
     tie.close
-    (tie.spec
-    slice-write-out
-    mul-at
-    add-at
-    sub-write-words
-    part-write-words-start
-    part-write-words-end
-    write-words-requires
-    sub-write-signed-words16
-    part-write-signed-words16-start
-    part-write-signed-words16-end
-    write-signed-words16-requires
-    same-length
-    returns)
+    (tie.spec (λ c. search needs) (λ c. search needs) (λ c. search needs) (λ c. search needs) (λ c. search needs) part-write-words-end
+    (λ c κs. search needs) sub-write-signed-words16 part-write-signed-words16-start (λ c. search needs) write-signed-words16-requires same-length returns)

@@ -23,23 +23,11 @@ abbrev μ-loop : tie.MeasureT-loop
 loop-holds : tie.Need-loop-holds Inv-loop μ-loop
 loop-holds c = (search needs, refl, refl)
 
-shared-slice-read-coefficient-of : tie.Need-shared-slice-read-coefficient-of Inv-loop μ-loop
-shared-slice-read-coefficient-of c = omega arith
-
 coefficient-of-requires : tie.Need-coefficient-of-requires Inv-loop μ-loop
 coefficient-of-requires c κs =
     let s = c .before .before .before .before in
     let i = c .before .before .loop .i in
     holds-true (isKeyByte (getD (s .args .bytes .now) i 0)) (all-at isKeyByte (s .args .bytes .now) 0 (true-holds (s .pre .1)) i (omega arith))
-
-slice-set-from-out : tie.Need-slice-set-from-out Inv-loop μ-loop
-slice-set-from-out c = search needs
-
-add-i : tie.Need-add-i Inv-loop μ-loop
-add-i c = omega arith
-
-loop-less : tie.Need-loop-less Inv-loop μ-loop
-loop-less c = omega arith
 
 loop-again : tie.Need-loop-again Inv-loop μ-loop
 loop-again c =
@@ -61,15 +49,5 @@ returns c =
 pub read-coefficients-spec : {M : Type 1} → statement M
 read-coefficients-spec =
     tie.close
-    (tie.spec
-    Inv-loop
-    μ-loop
-    loop-holds
-    shared-slice-read-coefficient-of
-    coefficient-of-requires
-    slice-set-from-out
-    add-i
-    loop-less
-    loop-again
-    same-length
-    returns)
+    (tie.spec Inv-loop μ-loop loop-holds (λ c. omega arith) coefficient-of-requires (λ c. search needs) (λ c. omega arith) (λ c. omega arith) loop-again
+    same-length returns)

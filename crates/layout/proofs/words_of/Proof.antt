@@ -10,24 +10,6 @@ use Rattle.encoding.proofs.Parts.{part-size, length-numbers, numbers-part}
 use Rattle.layout.proofs.words_of.Statement.{statement}
 use Rattle.layout.proofs.words_of.Tie as tie
 
-mul-at : tie.Need-mul-at
-mul-at c = search needs
-
-add-at : tie.Need-add-at
-add-at c = search needs
-
-sub-read-words : tie.Need-sub-read-words
-sub-read-words c = search needs
-
-part-read-words-start : tie.Need-part-read-words-start
-part-read-words-start c = search needs
-
-part-read-words-end : tie.Need-part-read-words-end
-part-read-words-end c = search needs
-
-array-borrow-prefix-words : tie.Need-array-borrow-prefix-words
-array-borrow-prefix-words c = search needs
-
 slice-aggregate-read-words : tie.Need-slice-aggregate-read-words
 slice-aggregate-read-words c = sym (length-take-le (c .before .before .before .args .count) (replicate 1152 0) (c .before .before .before .pre .1))
 
@@ -50,13 +32,5 @@ returns c =
 pub words-of-spec : {M : Type 1} → statement M
 words-of-spec =
     tie.close
-    (tie.spec
-    mul-at
-    add-at
-    sub-read-words
-    part-read-words-start
-    part-read-words-end
-    array-borrow-prefix-words
-    slice-aggregate-read-words
-    read-words-requires
-    returns)
+    (tie.spec (λ c. search needs) (λ c. search needs) (λ c. search needs) (λ c. search needs) (λ c. search needs) (λ c. search needs)
+    slice-aggregate-read-words read-words-requires returns)

@@ -6,15 +6,9 @@ use Rattle.parameters.specs.Sets.{sets, setOf}
 use Rattle.parameters.proofs.params_of.Statement.{statement}
 use Rattle.parameters.proofs.params_of.Tie as tie
 
-mul-result : tie.Need-mul-result
-mul-result c = search needs
-
-array-copy-out-result : tie.Need-array-copy-out-result
-array-copy-out-result c = search needs
-
 returns : tie.Need-returns
 unfolding sets setOf
 returns c = refl
 
 pub params-of-spec : {M : Type 1} → statement M
-params-of-spec = tie.close (tie.spec mul-result array-copy-out-result returns)
+params-of-spec = tie.close (tie.spec (λ c. search needs) (λ c. search needs) returns)

@@ -8,36 +8,6 @@ use Rattle.parameters.proofs.Tables.{arm}
 use Rattle.parameters.proofs.powers_of.Statement.{statement}
 use Rattle.parameters.proofs.powers_of.Tie as tie
 
-slice-aggregate-at-front : tie.Need-slice-aggregate-at-front
-slice-aggregate-at-front c = search needs
-
-at-front-requires : tie.Need-at-front-requires
-at-front-requires c κs = search needs
-
-slice-aggregate-at-front-2 : tie.Need-slice-aggregate-at-front-2
-slice-aggregate-at-front-2 c = search needs
-
-at-front-requires-2 : tie.Need-at-front-requires-2
-at-front-requires-2 c κs = search needs
-
-slice-aggregate-at-front-3 : tie.Need-slice-aggregate-at-front-3
-slice-aggregate-at-front-3 c = search needs
-
-at-front-requires-3 : tie.Need-at-front-requires-3
-at-front-requires-3 c κs = search needs
-
-slice-aggregate-at-front-4 : tie.Need-slice-aggregate-at-front-4
-slice-aggregate-at-front-4 c = search needs
-
-at-front-requires-4 : tie.Need-at-front-requires-4
-at-front-requires-4 c κs = search needs
-
-slice-aggregate-at-front-5 : tie.Need-slice-aggregate-at-front-5
-slice-aggregate-at-front-5 c = search needs
-
-at-front-requires-5 : tie.Need-at-front-requires-5
-at-front-requires-5 c κs = search needs
-
 returns : tie.Need-returns
 unfolding sets setOf
 returns c = arm 0 (c .before .before .match .keys1) _ _ refl tt tt (c .at-front .ensures)
@@ -63,19 +33,5 @@ returns-5 c =
 pub powers-of-spec : {M : Type 1} → statement M
 powers-of-spec =
     tie.close
-    (tie.spec
-    slice-aggregate-at-front
-    at-front-requires
-    slice-aggregate-at-front-2
-    at-front-requires-2
-    slice-aggregate-at-front-3
-    at-front-requires-3
-    slice-aggregate-at-front-4
-    at-front-requires-4
-    slice-aggregate-at-front-5
-    at-front-requires-5
-    returns
-    returns-2
-    returns-3
-    returns-4
-    returns-5)
+    (tie.spec (λ c. search needs) (λ c κs. search needs) (λ c. search needs) (λ c κs. search needs) (λ c. search needs) (λ c κs. search needs)
+    (λ c. search needs) (λ c κs. search needs) (λ c. search needs) (λ c κs. search needs) returns returns-2 returns-3 returns-4 returns-5)

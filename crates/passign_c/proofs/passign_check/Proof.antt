@@ -6,17 +6,8 @@ use borrow.Author.Needs.{needs}
 use Rattle.passign_c.proofs.passign_check.Statement.{statement}
 use Rattle.passign_c.proofs.passign_check.Tie as tie
 
-check-requires : tie.Need-check-requires
-check-requires c κs = search needs
-
 enum-told : tie.Need-enum-told
 enum-told c = search needs
-
-enum-told-2 : tie.Need-enum-told-2
-enum-told-2 c = search needs
-
-enum-known-v : tie.Need-enum-known-v
-enum-known-v c = search needs
 
 returns : tie.Need-returns
 returns c = sym (ap verdictNumber (sym (c .before .before .check .ensures) ∙ c .enum-told .given .1))
@@ -28,6 +19,4 @@ returns-3 : tie.Need-returns-3
 returns-3 c = sym (ap verdictNumber (sym (c .before .before .before .check .ensures) ∙ c .before .v .given .1))
 
 pub passign-check-spec : {M : Type 1} → statement M
-passign-check-spec =
-    tie.close
-    (tie.spec check-requires enum-told enum-told-2 enum-known-v returns returns-2 returns-3)
+passign-check-spec = tie.close (tie.spec (λ c κs. search needs) enum-told (λ c. search needs) (λ c. search needs) returns returns-2 returns-3)

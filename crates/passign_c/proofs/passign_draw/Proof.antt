@@ -7,17 +7,8 @@ use borrow.Author.Needs.{needs}
 use Rattle.passign_c.proofs.passign_draw.Statement.{statement}
 use Rattle.passign_c.proofs.passign_draw.Tie as tie
 
-draw-requires : tie.Need-draw-requires
-draw-requires c κs = search needs
-
-number-requires : tie.Need-number-requires
-number-requires c κs = search needs
-
-same-length : tie.Need-same-length
-same-length c = search needs
-
 returns : tie.Need-returns
 returns c = let e = c .before .before .draw .ensures in (c .number .ensures ∙ ap numberOf (e .0) ∙ numbered _, e .1)
 
 pub passign-draw-spec : {M : Type 1} → statement M
-passign-draw-spec = tie.close (tie.spec draw-requires number-requires same-length returns)
+passign-draw-spec = tie.close (tie.spec (λ c κs. search needs) (λ c κs. search needs) (λ c. search needs) returns)

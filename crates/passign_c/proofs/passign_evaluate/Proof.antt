@@ -7,17 +7,8 @@ use borrow.Author.Needs.{needs}
 use Rattle.passign_c.proofs.passign_evaluate.Statement.{statement}
 use Rattle.passign_c.proofs.passign_evaluate.Tie as tie
 
-evaluate-requires : tie.Need-evaluate-requires
-evaluate-requires c κs = search needs
-
-number-requires : tie.Need-number-requires
-number-requires c κs = search needs
-
-same-length : tie.Need-same-length
-same-length c = search needs
-
 returns : tie.Need-returns
 returns c = let e = c .before .before .before .evaluate .ensures in (c .number .ensures ∙ ap numberOf (e .0) ∙ numbered _, e .1)
 
 pub passign-evaluate-spec : {M : Type 1} → statement M
-passign-evaluate-spec = tie.close (tie.spec evaluate-requires number-requires same-length returns)
+passign-evaluate-spec = tie.close (tie.spec (λ c κs. search needs) (λ c κs. search needs) (λ c. search needs) returns)

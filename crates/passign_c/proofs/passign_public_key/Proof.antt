@@ -7,18 +7,8 @@ use borrow.Author.Needs.{needs}
 use Rattle.passign_c.proofs.passign_public_key.Statement.{statement}
 use Rattle.passign_c.proofs.passign_public_key.Tie as tie
 
-public-key-requires : tie.Need-public-key-requires
-public-key-requires c κs = search needs
-
-number-requires : tie.Need-number-requires
-number-requires c κs = search needs
-
-same-length : tie.Need-same-length
-same-length c = search needs
-
 returns : tie.Need-returns
 returns c = let e = c .before .before .before .public-key .ensures in (c .number .ensures ∙ ap numberOf (e .0) ∙ numbered _, e .1)
 
 pub passign-public-key-spec : {M : Type 1} → statement M
-passign-public-key-spec =
-    tie.close (tie.spec public-key-requires number-requires same-length returns)
+passign-public-key-spec = tie.close (tie.spec (λ c κs. search needs) (λ c κs. search needs) (λ c. search needs) returns)

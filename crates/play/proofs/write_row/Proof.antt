@@ -6,17 +6,8 @@ use borrow.Author.Needs.{needs}
 use Rattle.play.proofs.write_row.Statement.{statement}
 use Rattle.play.proofs.write_row.Tie as tie
 
-row-size-requires : tie.Need-row-size-requires
-row-size-requires c κs = search needs
-
 slice-aggregate-write-all : tie.Need-slice-aggregate-write-all
 slice-aggregate-write-all c = sym (length-take-le _ _ (c .before .row-size .ensures .1))
 
-write-all-requires : tie.Need-write-all-requires
-write-all-requires c κs = search needs
-
-returns : tie.Need-returns
-returns c = search needs
-
 pub write-row-spec : {M : Type 1} → statement M
-write-row-spec = tie.close (tie.spec row-size-requires slice-aggregate-write-all write-all-requires returns)
+write-row-spec = tie.close (tie.spec (λ c κs. search needs) slice-aggregate-write-all (λ c κs. search needs) (λ c. search needs))

@@ -6,12 +6,9 @@ use Rattle.session.specs.Session.{sessionOf}
 use Rattle.session.proofs.open.Statement.{statement}
 use Rattle.session.proofs.open.Tie as tie
 
-only-set-requires : tie.Need-only-set-requires
-only-set-requires c κs = search needs
-
 returns : tie.Need-returns
 unfolding sessionOf opened
 returns c = rw (c .only-set .ensures)
 
 pub open-spec : {M : Type 1} → statement M
-open-spec = tie.close (tie.spec only-set-requires returns)
+open-spec = tie.close (tie.spec (λ c κs. search needs) returns)

@@ -31,12 +31,6 @@ returns-2 c =
     let a = c .before .before .before .before .args in
     rw (ended (sessionOf (a .session)) (a .file .now) (a .rows .now) (c .before .if1 .left) (c .if2 .taken))
 
-step-requires : tie.Need-step-requires
-step-requires c κs = search needs
-
-same-length : tie.Need-same-length
-same-length c = search needs
-
 returns-3 : tie.Need-returns-3
 unfolding sessionOf
 returns-3 c =
@@ -46,4 +40,4 @@ returns-3 c =
     rw (steps (sessionOf (a .session)) (a .file .now) (a .rows .now) (b .before .if1 .left) (b .if2 .left), took .session, took .number, took .row)
 
 pub play-spec : {M : Type 1} → statement M
-play-spec = tie.close (tie.spec returns returns-2 step-requires same-length returns-3)
+play-spec = tie.close (tie.spec returns returns-2 (λ c κs. search needs) (λ c. search needs) returns-3)

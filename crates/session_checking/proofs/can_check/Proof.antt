@@ -4,11 +4,8 @@ use borrow.Author.Needs.{needs}
 use Rattle.session_checking.proofs.can_check.Statement.{statement}
 use Rattle.session_checking.proofs.can_check.Tie as tie
 
-has-points-requires : tie.Need-has-points-requires
-has-points-requires c κs = search needs
-
 returns : tie.Need-returns
 returns c = rw (c .before .has-points .ensures)
 
 pub can-check-spec : {M : Type 1} → statement M
-can-check-spec = tie.close (tie.spec has-points-requires returns)
+can-check-spec = tie.close (tie.spec (λ c κs. search needs) returns)

@@ -41,15 +41,6 @@ module _ (p : Params) (h : Held) (op : List ℕ) where
   unfolding check heldIn
   judged e v = rw v (all-held points vs (h .message .bytes) (heldIn p h) judgedWith (hasPoints p (h .points)) (h .evaluations .held) (h .message .held) e)
 
-can-check-requires : tie.Need-can-check-requires
-can-check-requires c κs = search needs
-
-write-plain-requires : tie.Need-write-plain-requires
-write-plain-requires c κs = search needs
-
-same-length : tie.Need-same-length
-same-length c = search needs
-
 returns : tie.Need-returns
 returns c =
     let k = c .before .before .before .before .before in
@@ -57,26 +48,8 @@ returns c =
     rw (lacking (a .p) (a .h) (a .operand .now) (sym (k .can-check .ensures) ∙ not-true _ (c .before .before .before .before .if1 .taken)))
     (record { number = refl; held = refl; row = c .before .before .write-plain .ensures }, refl)
 
-judge-requires : tie.Need-judge-requires
-judge-requires c κs = search needs
-
 enum-told : tie.Need-enum-told
 enum-told c = search needs
-
-write-judged-requires : tie.Need-write-judged-requires
-write-judged-requires c κs = search needs
-
-enum-told-2 : tie.Need-enum-told-2
-enum-told-2 c = search needs
-
-write-judged-requires-2 : tie.Need-write-judged-requires-2
-write-judged-requires-2 c κs = search needs
-
-enum-known-verdict : tie.Need-enum-known-verdict
-enum-known-verdict c = search needs
-
-write-plain-requires-2 : tie.Need-write-plain-requires-2
-write-plain-requires-2 c κs = search needs
 
 -- the library's verdict v decides
 verdict-is : (c : tie.After-judge) {v : Verdict} → let a = c .before .before .before .before .before .args in
@@ -86,26 +59,17 @@ verdict-is c told =
     let a = k .before .before .before .args in
     judged (a .p) (a .h) (a .operand .now) (sym (k .can-check .ensures) ∙ not-false _ (c .before .if1 .left)) (sym told ∙ c .judge .ensures)
 
-same-length-2 : tie.Need-same-length-2
-same-length-2 c = search needs
-
 returns-2 : tie.Need-returns-2
 returns-2 c =
     let told = c .before .before .before .before in
     rw (verdict-is (told .before .before) (told .enum-told .given .1))
     (record { number = refl; held = refl; row = c .before .before .write-judged .ensures }, refl)
 
-same-length-3 : tie.Need-same-length-3
-same-length-3 c = search needs
-
 returns-3 : tie.Need-returns-3
 returns-3 c =
     let told = c .before .before .before .before in
     rw (verdict-is (told .before .before) (told .enum-told2 .given .1))
     (record { number = refl; held = refl; row = c .before .before .write-judged2 .ensures }, refl)
-
-same-length-4 : tie.Need-same-length-4
-same-length-4 c = search needs
 
 returns-4 : tie.Need-returns-4
 returns-4 c =
@@ -116,21 +80,6 @@ returns-4 c =
 pub check-held-spec : {M : Type 1} → statement M
 check-held-spec =
     tie.close
-    (tie.spec
-    can-check-requires
-    write-plain-requires
-    same-length
-    returns
-    judge-requires
-    enum-told
-    write-judged-requires
-    enum-told-2
-    write-judged-requires-2
-    enum-known-verdict
-    write-plain-requires-2
-    same-length-2
-    returns-2
-    same-length-3
-    returns-3
-    same-length-4
-    returns-4)
+    (tie.spec (λ c κs. search needs) (λ c κs. search needs) (λ c. search needs) returns (λ c κs. search needs) enum-told (λ c κs. search needs)
+    (λ c. search needs) (λ c κs. search needs) (λ c. search needs) (λ c κs. search needs) (λ c. search needs) returns-2 (λ c. search needs) returns-3
+    (λ c. search needs) returns-4)

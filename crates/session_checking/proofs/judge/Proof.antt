@@ -11,27 +11,6 @@ use Rattle.entry_check.specs.Check.{checkAnswer}
 use Rattle.session_checking.proofs.judge.Statement.{statement}
 use Rattle.session_checking.proofs.judge.Tie as tie
 
-mul-key-size : tie.Need-mul-key-size
-mul-key-size c = search needs
-
-add-key-size : tie.Need-add-key-size
-add-key-size c = search needs
-
-mul-key-size-2 : tie.Need-mul-key-size-2
-mul-key-size-2 c = search needs
-
-add-key-size-2 : tie.Need-add-key-size-2
-add-key-size-2 c = search needs
-
-add-size : tie.Need-add-size
-add-size c = search needs
-
-key-held-requires : tie.Need-key-held-requires
-key-held-requires c κs = search needs
-
-with-set-requires : tie.Need-with-set-requires
-with-set-requires c κs = search needs
-
 array-share-prefix-key : tie.Need-array-share-prefix-key
 array-share-prefix-key c = search needs
 
@@ -55,9 +34,6 @@ slice-aggregate-check-3 c =
     let s = w .before .before .before .before .before in
     sym (length-take-le (1 + length (s .args .operand .now)) (w .with-set .result) (array-share-prefix-signature (c .before)))
 
-check-requires : tie.Need-check-requires
-check-requires c κs = search needs
-
 returns : tie.Need-returns
 returns c =
     let w = c .before .before .before .before in
@@ -68,18 +44,6 @@ returns c =
 pub judge-spec : {M : Type 1} → statement M
 judge-spec =
     tie.close
-    (tie.spec
-    mul-key-size
-    add-key-size
-    mul-key-size-2
-    add-key-size-2
-    add-size
-    key-held-requires
-    with-set-requires
-    array-share-prefix-key
-    slice-aggregate-check
-    slice-aggregate-check-2
-    array-share-prefix-signature
-    slice-aggregate-check-3
-    check-requires
-    returns)
+    (tie.spec (λ c. search needs) (λ c. search needs) (λ c. search needs) (λ c. search needs) (λ c. search needs) (λ c κs. search needs)
+    (λ c κs. search needs) array-share-prefix-key slice-aggregate-check slice-aggregate-check-2 array-share-prefix-signature slice-aggregate-check-3
+    (λ c κs. search needs) returns)

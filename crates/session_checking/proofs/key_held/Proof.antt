@@ -11,18 +11,6 @@ use Rattle.session_state.proofs.Room.{points-room, public-key-room}
 use Rattle.session_checking.proofs.key_held.Statement.{statement}
 use Rattle.session_checking.proofs.key_held.Tie as tie
 
-mul-size : tie.Need-mul-size
-mul-size c = search needs
-
-add-size : tie.Need-add-size
-add-size c = search needs
-
-mul-size-2 : tie.Need-mul-size-2
-mul-size-2 c = search needs
-
-add-size-2 : tie.Need-add-size-2
-add-size-2 c = search needs
-
 -- the arrays held have t numbers
 module _ (s : tie.Start) where
   points-fit : s .args .p .t ≤ length (s .args .h .points .list)
@@ -51,9 +39,6 @@ slice-aggregate-put-public-key-2 c =
     let s = c .before .before .before .before .before .before in
     sym (length-take-le (s .args .p .t) (s .args .h .evaluations .list) (evaluations-fit s))
 
-array-borrow-prefix-key : tie.Need-array-borrow-prefix-key
-array-borrow-prefix-key c = search needs
-
 slice-aggregate-put-public-key-3 : tie.Need-slice-aggregate-put-public-key-3
 slice-aggregate-put-public-key-3 c =
     let s = c .before .before .before .before .before .before .before in
@@ -76,16 +61,5 @@ returns c =
 pub key-held-spec : {M : Type 1} → statement M
 key-held-spec =
     tie.close
-    (tie.spec
-    mul-size
-    add-size
-    mul-size-2
-    add-size-2
-    array-share-prefix-list
-    slice-aggregate-put-public-key
-    array-share-prefix-values
-    slice-aggregate-put-public-key-2
-    array-borrow-prefix-key
-    slice-aggregate-put-public-key-3
-    put-public-key-requires
-    returns)
+    (tie.spec (λ c. search needs) (λ c. search needs) (λ c. search needs) (λ c. search needs) array-share-prefix-list slice-aggregate-put-public-key
+    array-share-prefix-values slice-aggregate-put-public-key-2 (λ c. search needs) slice-aggregate-put-public-key-3 put-public-key-requires returns)

@@ -6,19 +6,13 @@ use Rattle.session_rules.specs.Commands.{chooseSet}
 use Rattle.session_loading.proofs.choose_set.Statement.{statement}
 use Rattle.session_loading.proofs.choose_set.Tie as tie
 
-shared-slice-read-set : tie.Need-shared-slice-read-set
-shared-slice-read-set c = search needs
-
 returns : tie.Need-returns
 unfolding chooseSet
 returns c = rw (le-ltb _ 5 (c .if1 .taken))
-
-only-set-requires : tie.Need-only-set-requires
-only-set-requires c κs = search needs
 
 returns-2 : tie.Need-returns-2
 unfolding chooseSet
 returns-2 c = rw (c .only-set .ensures, lt-ltb _ 5 (c .before .if1 .left))
 
 pub choose-set-spec : {M : Type 1} → statement M
-choose-set-spec = tie.close (tie.spec shared-slice-read-set returns only-set-requires returns-2)
+choose-set-spec = tie.close (tie.spec (λ c. search needs) returns (λ c κs. search needs) returns-2)

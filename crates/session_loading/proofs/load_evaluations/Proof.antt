@@ -28,9 +28,6 @@ loaded : (p : Params) (h : state.Held) (k : Key) (list op : List ℕ)
 unfolding loadEvaluations heldIn
 loaded p h k list op a b e below = rw (a, b, e, below)
 
-has-points-requires : tie.Need-has-points-requires
-has-points-requires c κs = search needs
-
 returns : tie.Need-returns
 unfolding loadEvaluations heldIn
 returns c = (rw (sym (c .before .has-points .ensures) ∙ not-true _ (c .if1 .taken)), refl)
@@ -38,9 +35,6 @@ returns c = (rw (sym (c .before .has-points .ensures) ∙ not-true _ (c .if1 .ta
 -- points are held
 with-points : (c : tie.Else1) → let a = c .before .before .before .before .args in hasPoints (a .p) (a .h .points) ≡ true
 with-points c = sym (c .before .has-points .ensures) ∙ not-false _ (c .if1 .left)
-
-array-borrow-prefix-list : tie.Need-array-borrow-prefix-list
-array-borrow-prefix-list c = search needs
 
 slice-aggregate-read-triples : tie.Need-slice-aggregate-read-triples
 slice-aggregate-read-triples c = points-lent (c .before .before .before .before .before .pre .0)
@@ -63,9 +57,6 @@ array-share-prefix-list c = read (c .before) .room
 slice-aggregate-are-below : tie.Need-slice-aggregate-are-below
 slice-aggregate-are-below c = read (c .before .before) .count
 
-are-below-requires : tie.Need-are-below-requires
-are-below-requires c κs = search needs
-
 -- and tested
 tested : (c : tie.After-are-below)
     → let a = c .before .before .before .before .before .before .before .before .before .args in
@@ -80,9 +71,6 @@ returns-2 c =
     let r = c .before .before .before .before .before .before in
     (rw (with-points r, tested (c .before) ∙ not-true _ (c .if2 .taken)), refl)
 
-no-key-requires : tie.Need-no-key-requires
-no-key-requires c κs = search needs
-
 returns-3 : tie.Need-returns-3
 returns-3 c =
     let t = c .before in
@@ -93,15 +81,5 @@ returns-3 c =
 pub load-evaluations-spec : {M : Type 1} → statement M
 load-evaluations-spec =
     tie.close
-    (tie.spec
-    has-points-requires
-    returns
-    array-borrow-prefix-list
-    slice-aggregate-read-triples
-    read-triples-requires
-    array-share-prefix-list
-    slice-aggregate-are-below
-    are-below-requires
-    returns-2
-    no-key-requires
-    returns-3)
+    (tie.spec (λ c κs. search needs) returns (λ c. search needs) slice-aggregate-read-triples read-triples-requires array-share-prefix-list
+    slice-aggregate-are-below (λ c κs. search needs) returns-2 (λ c κs. search needs) returns-3)

@@ -70,9 +70,6 @@ array-share-prefix-mask c = read (c .before) .room
 slice-aggregate-in-range16 : tie.Need-slice-aggregate-in-range16
 slice-aggregate-in-range16 c = read (c .before .before) .count
 
-in-range16-requires : tie.Need-in-range16-requires
-in-range16-requires c κs = search needs
-
 -- and tested
 tested : (c : tie.After-in-range16)
     → let a = c .before .before .before .before .before .before .before .before .args in
@@ -109,16 +106,5 @@ returns-3 c =
 pub load-mask-spec : {M : Type 1} → statement M
 load-mask-spec =
     tie.close
-    (tie.spec
-    returns
-    array-borrow-prefix-mask
-    slice-aggregate-read-signed-words
-    read-signed-words-requires
-    array-share-prefix-mask
-    slice-aggregate-in-range16
-    in-range16-requires
-    returns-2
-    array-share-prefix-mask-2
-    slice-aggregate-with-mask
-    with-mask-requires
-    returns-3)
+    (tie.spec returns array-borrow-prefix-mask slice-aggregate-read-signed-words read-signed-words-requires array-share-prefix-mask
+    slice-aggregate-in-range16 (λ c κs. search needs) returns-2 array-share-prefix-mask-2 slice-aggregate-with-mask with-mask-requires returns-3)

@@ -7,15 +7,9 @@ use Rattle.session_state.specs.State.{heldIn}
 use Rattle.session_loading.proofs.load_message.Statement.{statement}
 use Rattle.session_loading.proofs.load_message.Tie as tie
 
-slice-aggregate-copy : tie.Need-slice-aggregate-copy
-slice-aggregate-copy c = search needs
-
-copy-requires : tie.Need-copy-requires
-copy-requires c κs = search needs
-
 returns : tie.Need-returns
 unfolding loadMessage heldIn
 returns c = (rw (c .before .copy .ensures), refl)
 
 pub load-message-spec : {M : Type 1} → statement M
-load-message-spec = tie.close (tie.spec slice-aggregate-copy copy-requires returns)
+load-message-spec = tie.close (tie.spec (λ c. search needs) (λ c κs. search needs) returns)

@@ -29,9 +29,6 @@ loaded : (p : Params) (h : state.Held) (k : Key) (v : Evaluations) (list op : Li
 unfolding loadPoints heldIn
 loaded p h k v list op a b e rise = rw (a, b, e, rise)
 
-array-borrow-prefix-list : tie.Need-array-borrow-prefix-list
-array-borrow-prefix-list c = search needs
-
 slice-aggregate-read-words : tie.Need-slice-aggregate-read-words
 slice-aggregate-read-words c = points-lent (c .before .before .pre .0)
 
@@ -53,9 +50,6 @@ array-share-prefix-list c = read (c .before) .room
 slice-aggregate-are-points : tie.Need-slice-aggregate-are-points
 slice-aggregate-are-points c = read (c .before .before) .count
 
-are-points-requires : tie.Need-are-points-requires
-are-points-requires c κs = search needs
-
 -- and tested
 tested : (c : tie.After-are-points)
     → let a = c .before .before .before .before .before .before .args in
@@ -68,12 +62,6 @@ returns : tie.Need-returns
 unfolding loadPoints
 returns c = (rw (tested (c .before) ∙ not-true _ (c .if1 .taken)), refl)
 
-no-key-requires : tie.Need-no-key-requires
-no-key-requires c κs = search needs
-
-no-evaluations-requires : tie.Need-no-evaluations-requires
-no-evaluations-requires c κs = search needs
-
 returns-2 : tie.Need-returns-2
 returns-2 c =
     let t = c .before .before in
@@ -84,14 +72,5 @@ returns-2 c =
 pub load-points-spec : {M : Type 1} → statement M
 load-points-spec =
     tie.close
-    (tie.spec
-    array-borrow-prefix-list
-    slice-aggregate-read-words
-    read-words-requires
-    array-share-prefix-list
-    slice-aggregate-are-points
-    are-points-requires
-    returns
-    no-key-requires
-    no-evaluations-requires
-    returns-2)
+    (tie.spec (λ c. search needs) slice-aggregate-read-words read-words-requires array-share-prefix-list slice-aggregate-are-points (λ c κs. search needs)
+    returns (λ c κs. search needs) (λ c κs. search needs) returns-2)

@@ -7,21 +7,6 @@ use Rattle.session_rows.proofs.RowText.{wrote-then}
 use Rattle.session_rows.proofs.put_head.Statement.{statement}
 use Rattle.session_rows.proofs.put_head.Tie as tie
 
-put-digits-requires : tie.Need-put-digits-requires
-put-digits-requires c κs = search needs
-
-put-requires : tie.Need-put-requires
-put-requires c κs = search needs
-
-put-hex-byte-requires : tie.Need-put-hex-byte-requires
-put-hex-byte-requires c κs = search needs
-
-put-number-requires : tie.Need-put-number-requires
-put-number-requires c κs = search needs
-
-same-length : tie.Need-same-length
-same-length c = search needs
-
 returns : tie.Need-returns
 unfolding rowHead
 returns c =
@@ -35,11 +20,4 @@ returns c =
 
 pub put-head-spec : {M : Type 1} → statement M
 put-head-spec =
-    tie.close
-    (tie.spec
-    put-digits-requires
-    put-requires
-    put-hex-byte-requires
-    put-number-requires
-    same-length
-    returns)
+    tie.close (tie.spec (λ c κs. search needs) (λ c κs. search needs) (λ c κs. search needs) (λ c κs. search needs) (λ c. search needs) returns)

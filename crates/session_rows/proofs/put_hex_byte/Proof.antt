@@ -7,21 +7,6 @@ use Rattle.session_rows.proofs.RowText.{wrote-then}
 use Rattle.session_rows.proofs.put_hex_byte.Statement.{statement}
 use Rattle.session_rows.proofs.put_hex_byte.Tie as tie
 
-hex-digit-requires : tie.Need-hex-digit-requires
-hex-digit-requires c κs = search needs
-
-hex-digit-requires-2 : tie.Need-hex-digit-requires-2
-hex-digit-requires-2 c κs = search needs
-
-put-requires : tie.Need-put-requires
-put-requires c κs = search needs
-
-put-requires-2 : tie.Need-put-requires-2
-put-requires-2 c κs = search needs
-
-same-length : tie.Need-same-length
-same-length c = search needs
-
 returns : tie.Need-returns
 unfolding hex
 returns c =
@@ -34,11 +19,4 @@ returns c =
 
 pub put-hex-byte-spec : {M : Type 1} → statement M
 put-hex-byte-spec =
-    tie.close
-    (tie.spec
-    hex-digit-requires
-    hex-digit-requires-2
-    put-requires
-    put-requires-2
-    same-length
-    returns)
+    tie.close (tie.spec (λ c κs. search needs) (λ c κs. search needs) (λ c κs. search needs) (λ c κs. search needs) (λ c. search needs) returns)

@@ -7,15 +7,6 @@ use Rattle.session_rows.proofs.RowText.{wrote-then}
 use Rattle.session_rows.proofs.put_number.Statement.{statement}
 use Rattle.session_rows.proofs.put_number.Tie as tie
 
-put-requires : tie.Need-put-requires
-put-requires c κs = search needs
-
-put-digits-requires : tie.Need-put-digits-requires
-put-digits-requires c κs = search needs
-
-same-length : tie.Need-same-length
-same-length c = search needs
-
 returns : tie.Need-returns
 returns c =
     let number = c .before .before in
@@ -25,4 +16,4 @@ returns c =
     (rw ten (wrote-then (space .put .ensures) (number .put-digits .ensures .0)), omega arith)
 
 pub put-number-spec : {M : Type 1} → statement M
-put-number-spec = tie.close (tie.spec put-requires put-digits-requires same-length returns)
+put-number-spec = tie.close (tie.spec (λ c κs. search needs) (λ c κs. search needs) (λ c. search needs) returns)

@@ -10,12 +10,9 @@ use Rattle.session_signing.proofs.after_refusal.Tie as tie
 returns : tie.Need-returns
 returns c = (λ p. rw (ne-eqb _ 9 (c .if1 .taken)), refl)
 
-no-masks-requires : tie.Need-no-masks-requires
-no-masks-requires c κs = search needs
-
 returns-2 : tie.Need-returns-2
 unfolding heldIn
 returns-2 c = (λ p. rw (eq-eqb _ 9 (c .before .if1 .left), c .no-masks .ensures), refl)
 
 pub after-refusal-spec : {M : Type 1} → statement M
-after-refusal-spec = tie.close (tie.spec returns no-masks-requires returns-2)
+after-refusal-spec = tie.close (tie.spec returns (λ c κs. search needs) returns-2)

@@ -7,15 +7,9 @@ use Rattle.session_state.specs.State.{heldIn}
 use Rattle.session_signing.proofs.after_signing.Statement.{statement}
 use Rattle.session_signing.proofs.after_signing.Tie as tie
 
-add-used : tie.Need-add-used
-add-used c = search needs
-
-without-masks-requires : tie.Need-without-masks-requires
-without-masks-requires c κs = search needs
-
 returns : tie.Need-returns
 unfolding heldIn
 returns c = rw (c .without-masks .ensures, ← add-one (c .before .before .args .passed)) (refl, refl)
 
 pub after-signing-spec : {M : Type 1} → statement M
-after-signing-spec = tie.close (tie.spec add-used without-masks-requires returns)
+after-signing-spec = tie.close (tie.spec (λ c. search needs) (λ c κs. search needs) returns)

@@ -4,11 +4,8 @@ use borrow.Author.Needs.{needs}
 use Rattle.session_signing.proofs.can_sign.Statement.{statement}
 use Rattle.session_signing.proofs.can_sign.Tie as tie
 
-has-points-requires : tie.Need-has-points-requires
-has-points-requires c κs = search needs
-
 returns : tie.Need-returns
 returns c = rw (c .before .has-points .ensures)
 
 pub can-sign-spec : {M : Type 1} → statement M
-can-sign-spec = tie.close (tie.spec has-points-requires returns)
+can-sign-spec = tie.close (tie.spec (λ c κs. search needs) returns)

@@ -31,24 +31,6 @@ module _ (s : tie.Start) where
   message-size : length (s .args .h .message .bytes) ≡ 64
   message-size = search needs
 
-add-key-size : tie.Need-add-key-size
-add-key-size c = search needs
-
-mul-size : tie.Need-mul-size
-mul-size c = search needs
-
-add-size : tie.Need-add-size
-add-size c = search needs
-
-mul-size-2 : tie.Need-mul-size-2
-mul-size-2 c = search needs
-
-add-size-2 : tie.Need-add-size-2
-add-size-2 c = search needs
-
-at-most-eight-requires : tie.Need-at-most-eight-requires
-at-most-eight-requires c κs = search needs
-
 used-room : (c : tie.After-at-most-eight) → c .at-most-eight .result * c .before .before .before .before .args .p .n ≤ 9224
 used-room c =
     let s = c .before .before .before .before in
@@ -56,9 +38,6 @@ used-room c =
 
 mul-used : tie.Need-mul-used
 mul-used c = omega (arith, used-room c)
-
-secret-held-requires : tie.Need-secret-held-requires
-secret-held-requires c κs = search needs
 
 array-share-prefix-secret : tie.Need-array-share-prefix-secret
 array-share-prefix-secret c = search needs
@@ -91,16 +70,10 @@ slice-aggregate-sign-3 c =
 slice-aggregate-sign-4 : tie.Need-slice-aggregate-sign-4
 slice-aggregate-sign-4 c = sym (message-size (c .before .before .before .before .before .before .before .before .before .before))
 
-array-borrow-prefix-out : tie.Need-array-borrow-prefix-out
-array-borrow-prefix-out c = search needs
-
 slice-aggregate-sign-5 : tie.Need-slice-aggregate-sign-5
 slice-aggregate-sign-5 c =
     let s = c .before .before .before .before .before .before .before .before .before .before .before in
     sym (length-take-le {A = ℕ} (signatureSize (s .args .p)) (replicate 2435 0) (signature-room (s .pre)))
-
-sign-requires : tie.Need-sign-requires
-sign-requires c κs = search needs
 
 same : {A : Type 0} (f : List ℕ → List ℤ → List ℕ → A) {key key' : List ℕ} {masks masks' : List ℤ} {out out' : List ℕ}
     → key ≡ key' → masks ≡ masks' → out ≡ out' → f key masks out ≡ f key' masks' out'
@@ -140,23 +113,6 @@ returns c =
 pub make-spec : {M : Type 1} → statement M
 make-spec =
     tie.close
-    (tie.spec
-    add-key-size
-    mul-size
-    add-size
-    mul-size-2
-    add-size-2
-    at-most-eight-requires
-    mul-used
-    secret-held-requires
-    array-share-prefix-secret
-    slice-aggregate-sign
-    array-share-prefix-list
-    slice-aggregate-sign-2
-    array-share-prefix-numbers
-    slice-aggregate-sign-3
-    slice-aggregate-sign-4
-    array-borrow-prefix-out
-    slice-aggregate-sign-5
-    sign-requires
-    returns)
+    (tie.spec (λ c. search needs) (λ c. search needs) (λ c. search needs) (λ c. search needs) (λ c. search needs) (λ c κs. search needs) mul-used
+    (λ c κs. search needs) array-share-prefix-secret slice-aggregate-sign array-share-prefix-list slice-aggregate-sign-2 array-share-prefix-numbers
+    slice-aggregate-sign-3 slice-aggregate-sign-4 (λ c. search needs) slice-aggregate-sign-5 (λ c κs. search needs) returns)

@@ -57,12 +57,6 @@ fitting s = lookup-fitting (s .args .h .set) (s .pre .0 .0) (s .pre .0 .1)
 can-sign-requires : tie.Need-can-sign-requires
 can-sign-requires c κs = fitting (c .before)
 
-lack-requires : tie.Need-lack-requires
-lack-requires c κs = search needs
-
-same-length : tie.Need-same-length
-same-length c = search needs
-
 returns : tie.Need-returns
 returns c =
     let k = c .before .before .before .before .before in
@@ -72,9 +66,6 @@ returns c =
 
 make-requires : tie.Need-make-requires
 make-requires c κs = fitting (c .before .before .before)
-
-enum-known-answer : tie.Need-enum-known-answer
-enum-known-answer c = search needs
 
 mul-size : tie.Need-mul-size
 mul-size c = omega (arith, fitting (c .before .before .before .before .before .before .before .before))
@@ -108,15 +99,6 @@ write-signed-requires c κs =
 after-signing-requires : tie.Need-after-signing-requires
 after-signing-requires c κs = fitting (c .before .before .before .before .before .before .before .before .before .before .before .before .before .before .before)
 
-enum-known-answer-2 : tie.Need-enum-known-answer-2
-enum-known-answer-2 c = search needs
-
-write-plain-requires : tie.Need-write-plain-requires
-write-plain-requires c κs = search needs
-
-after-refusal-requires : tie.Need-after-refusal-requires
-after-refusal-requires c κs = search needs
-
 -- the library's answer a decides
 answer-is : (c : tie.After-make) {a : Signing} → let s = c .before .before .before .before .args in
     c .make .result .answer ≡ a
@@ -127,17 +109,11 @@ answer-is c told =
     let s = k .before .before .args in
     answered (s .p) (s .h) (sym (k .can-sign .ensures) ∙ not-false _ (c .before .if1 .left)) (sym told ∙ c .make .ensures .0) (c .make .ensures .1)
 
-same-length-2 : tie.Need-same-length-2
-same-length-2 c = search needs
-
 returns-2 : tie.Need-returns-2
 returns-2 c =
     let told = c .before .before .before .before .before .before .before .before .before .before in
     rw (answer-is (told .before .before) (told .answer .given .1))
     (record { number = refl; held = c .after-signing .ensures .0; row = c .before .before .before .write-signed .ensures }, c .after-signing .ensures .1)
-
-same-length-3 : tie.Need-same-length-3
-same-length-3 c = search needs
 
 returns-3 : tie.Need-returns-3
 returns-3 c =
@@ -149,25 +125,6 @@ returns-3 c =
 pub sign-held-spec : {M : Type 1} → statement M
 sign-held-spec =
     tie.close
-    (tie.spec
-    can-sign-requires
-    lack-requires
-    same-length
-    returns
-    make-requires
-    enum-known-answer
-    mul-size
-    add-size
-    mul-size-2
-    add-size-2
-    array-share-prefix-bytes
-    slice-aggregate-write-signed
-    write-signed-requires
-    after-signing-requires
-    enum-known-answer-2
-    write-plain-requires
-    after-refusal-requires
-    same-length-2
-    returns-2
-    same-length-3
-    returns-3)
+    (tie.spec can-sign-requires (λ c κs. search needs) (λ c. search needs) returns make-requires (λ c. search needs) mul-size add-size mul-size-2
+    add-size-2 array-share-prefix-bytes slice-aggregate-write-signed write-signed-requires after-signing-requires (λ c. search needs)
+    (λ c κs. search needs) (λ c κs. search needs) (λ c. search needs) returns-2 (λ c. search needs) returns-3)

@@ -20,9 +20,6 @@ slice-aggregate-are-points c =
     let room : length (s .args .points .list) ≡ 1152 = search needs in
     sym (length-take-le (s .args .p .t) (s .args .points .list) (omega (arith, s .pre .size, s .pre .points)))
 
-are-points-requires : tie.Need-are-points-requires
-are-points-requires c κs = search needs
-
 returns : tie.Need-returns
 returns c = rw (c .before .before .before .if1 .taken) (c .are-points .ensures)
 
@@ -30,4 +27,4 @@ returns-2 : tie.Need-returns-2
 returns-2 c = rw (c .if1 .left)
 
 pub has-points-spec : {M : Type 1} → statement M
-has-points-spec = tie.close (tie.spec array-share-prefix-list slice-aggregate-are-points are-points-requires returns returns-2)
+has-points-spec = tie.close (tie.spec array-share-prefix-list slice-aggregate-are-points (λ c κs. search needs) returns returns-2)

@@ -12,21 +12,6 @@ use Rattle.session_state.specs.State.{whenHeld, chosenIn, setHeld, heldI
 use Rattle.session_state.proofs.only_set.Statement.{statement}
 use Rattle.session_state.proofs.only_set.Tie as tie
 
-no-points-requires : tie.Need-no-points-requires
-no-points-requires c κs = search needs
-
-no-key-requires : tie.Need-no-key-requires
-no-key-requires c κs = search needs
-
-no-evaluations-requires : tie.Need-no-evaluations-requires
-no-evaluations-requires c κs = search needs
-
-no-masks-requires : tie.Need-no-masks-requires
-no-masks-requires c κs = search needs
-
-no-message-requires : tie.Need-no-message-requires
-no-message-requires c κs = search needs
-
 blank : (h : state.Held) → h .points .held ≡ false → h .key .held ≡ false → h .evaluations .held ≡ false → h .masks .count ≡ 0 → h .message .held ≡ false
     → heldOf h ≡ onlySet (setHeld (h .set))
 unfolding heldOf heldIn
@@ -43,11 +28,4 @@ returns c =
 
 pub only-set-spec : {M : Type 1} → statement M
 only-set-spec =
-    tie.close
-    (tie.spec
-    no-points-requires
-    no-key-requires
-    no-evaluations-requires
-    no-masks-requires
-    no-message-requires
-    returns)
+    tie.close (tie.spec (λ c κs. search needs) (λ c κs. search needs) (λ c κs. search needs) (λ c κs. search needs) (λ c κs. search needs) returns)

@@ -9,15 +9,6 @@ use borrow.Author.Needs.{needs}
 use Rattle.sha512.proofs.sha512.Statement.{statement}
 use Rattle.sha512.proofs.sha512.Tie as tie
 
-initial-hash-value-requires : tie.Need-initial-hash-value-requires
-initial-hash-value-requires c κs = search needs
-
-after-end-requires : tie.Need-after-end-requires
-after-end-requires c κs = search needs
-
-digest-requires : tie.Need-digest-requires
-digest-requires c κs = search needs
-
 returns : tie.Need-returns
 unfolding SHA-512 pad
 returns c = let m = c .before .before .before .before .args .message .now in
@@ -25,5 +16,4 @@ returns c = let m = c .before .before .before .before .args .message .now in
     ∙ ap (bytesOf 8) (c .before .after-end .ensures ∙ ap (λ h. hashValue h (m ++ ending (length m))) (c .before .before .initial-hash-value .ensures))
 
 pub sha512-spec : {M : Type 1} → statement M
-sha512-spec =
-    tie.close (tie.spec initial-hash-value-requires after-end-requires digest-requires returns)
+sha512-spec = tie.close (tie.spec (λ c κs. search needs) (λ c κs. search needs) (λ c κs. search needs) returns)

@@ -12,33 +12,6 @@ use borrow.Author.Needs.{needs}
 use Rattle.sha512.proofs.sha512_of_two.Statement.{statement}
 use Rattle.sha512.proofs.sha512_of_two.Tie as tie
 
-add-total : tie.Need-add-total
-add-total c = search needs
-
-initial-hash-value-requires : tie.Need-initial-hash-value-requires
-initial-hash-value-requires c κs = search needs
-
-after-blocks-requires : tie.Need-after-blocks-requires
-after-blocks-requires c κs = search needs
-
-mul-at : tie.Need-mul-at
-mul-at c = search needs
-
-sub-after-joined : tie.Need-sub-after-joined
-sub-after-joined c = search needs
-
-part-after-joined-start : tie.Need-part-after-joined-start
-part-after-joined-start c = search needs
-
-part-after-joined-end : tie.Need-part-after-joined-end
-part-after-joined-end c = search needs
-
-after-joined-requires : tie.Need-after-joined-requires
-after-joined-requires c κs = search needs
-
-digest-requires : tie.Need-digest-requires
-digest-requires c κs = search needs
-
 returns : tie.Need-returns
 unfolding SHA-512 pad
 returns c = let h = c .before .before .before in
@@ -58,14 +31,5 @@ returns c = let h = c .before .before .before in
 pub sha512-of-two-spec : {M : Type 1} → statement M
 sha512-of-two-spec =
     tie.close
-    (tie.spec
-    add-total
-    initial-hash-value-requires
-    after-blocks-requires
-    mul-at
-    sub-after-joined
-    part-after-joined-start
-    part-after-joined-end
-    after-joined-requires
-    digest-requires
-    returns)
+    (tie.spec (λ c. search needs) (λ c κs. search needs) (λ c κs. search needs) (λ c. search needs) (λ c. search needs) (λ c. search needs)
+    (λ c. search needs) (λ c κs. search needs) (λ c κs. search needs) returns)

@@ -45,12 +45,6 @@ add-to c = omega (arith, end-in-masks c)
 mul-sign-with-mask : tie.Need-mul-sign-with-mask Inv-loop μ-loop
 mul-sign-with-mask c = omega (arith, end-in-masks c)
 
-sub-sign-with-mask : tie.Need-sub-sign-with-mask Inv-loop μ-loop
-sub-sign-with-mask c = omega arith
-
-part-sign-with-mask-start : tie.Need-part-sign-with-mask-start Inv-loop μ-loop
-part-sign-with-mask-start c = omega arith
-
 part-sign-with-mask-end : tie.Need-part-sign-with-mask-end Inv-loop μ-loop
 part-sign-with-mask-end c = end-in-masks c
 
@@ -82,9 +76,6 @@ add-i c =
     let a = c .before .before .before .before .before .before .before .before .before .before .before .before .args in
     omega (arith, div-le-self (length (a .masks .now)) (a .p .n))
 
-loop-less : tie.Need-loop-less Inv-loop μ-loop
-loop-less c = omega arith
-
 loop-again : tie.Need-loop-again Inv-loop μ-loop
 loop-again c =
     let a = c .before .before .before .before .before .before .before .before .before .before .before .before .args in
@@ -111,22 +102,5 @@ returns-2 c =
 pub sign-first-spec : {M : Type 1} → statement M
 sign-first-spec =
     tie.close
-    (tie.spec
-    Inv-loop
-    μ-loop
-    div-count
-    loop-holds
-    mul-at
-    add-to
-    mul-sign-with-mask
-    sub-sign-with-mask
-    part-sign-with-mask-start
-    part-sign-with-mask-end
-    sign-with-mask-requires
-    same-length
-    returns
-    add-i
-    loop-less
-    loop-again
-    same-length-2
-    returns-2)
+    (tie.spec Inv-loop μ-loop div-count loop-holds mul-at add-to mul-sign-with-mask (λ c. omega arith) (λ c. omega arith) part-sign-with-mask-end
+    sign-with-mask-requires same-length returns add-i (λ c. omega arith) loop-again same-length-2 returns-2)

@@ -25,9 +25,6 @@ pointed c =
     let w = c .before .before .point-of in
     take-at (w .last .1 .1 .1 .0) (drop (s .args .p .n) (replicate 1153 (pos 0))) (s .args .p .n) (point-size (s .pre) (w .ensures)) ∙ w .ensures
 
-array-borrow-prefix-z : tie.Need-array-borrow-prefix-z
-array-borrow-prefix-z c = search needs
-
 slice-aggregate-point-of : tie.Need-slice-aggregate-point-of
 slice-aggregate-point-of c =
     let s = c .before .before in sym (length-take-le (s .args .p .n) (replicate 1153 (pos 0)) (s .pre .fitting .size))
@@ -44,12 +41,6 @@ point-of-requires c κs =
       (a .key, a .challenge),
     )
 
-cast-bound : tie.Need-cast-bound
-cast-bound c = search needs
-
-sub-bound : tie.Need-sub-bound
-sub-bound c = search needs
-
 array-share-prefix-z : tie.Need-array-share-prefix-z
 array-share-prefix-z c =
     let s = c .before .before .before .before .before in
@@ -62,9 +53,6 @@ slice-aggregate-in-range c =
     let w = c .before .before .before .point-of in
     front-length (w .last .1 .1 .1 .0) (drop (s .args .p .n) (replicate 1153 (pos 0))) (s .args .p .n) (point-size (s .pre) (w .ensures))
 
-in-range-requires : tie.Need-in-range-requires
-in-range-requires c κs = search needs
-
 array-share-prefix-z-2 : tie.Need-array-share-prefix-z-2
 array-share-prefix-z-2 c = array-share-prefix-z (c .before .before .before)
 
@@ -75,9 +63,6 @@ write-signature-requires : tie.Need-write-signature-requires
 write-signature-requires c κs =
     let s = c .before .before .before .before .before .before .before .before .before .before in
     writable (s .pre) (pointed (c .before .before .before .before .before)) (sym (c .before .before .before .in-range .ensures) ∙ c .before .before .if1 .taken)
-
-same-length : tie.Need-same-length
-same-length c = search needs
 
 returns : tie.Need-returns
 unfolding signatureOf
@@ -95,18 +80,6 @@ returns-2 c =
 pub sign-with-challenge-spec : {M : Type 1} → statement M
 sign-with-challenge-spec =
     tie.close
-    (tie.spec
-    array-borrow-prefix-z
-    slice-aggregate-point-of
-    point-of-requires
-    cast-bound
-    sub-bound
-    array-share-prefix-z
-    slice-aggregate-in-range
-    in-range-requires
-    array-share-prefix-z-2
-    slice-aggregate-write-signature
-    write-signature-requires
-    same-length
-    returns
-    returns-2)
+    (tie.spec (λ c. search needs) slice-aggregate-point-of point-of-requires (λ c. search needs) (λ c. search needs) array-share-prefix-z
+    slice-aggregate-in-range (λ c κs. search needs) array-share-prefix-z-2 slice-aggregate-write-signature write-signature-requires (λ c. search needs)
+    returns returns-2)

@@ -36,9 +36,6 @@ committed c =
     let w = c .before .before .evaluate in
     take-at (w .last .1 .1 .1 .1 .0) (drop (s .args .p .t) (replicate 1152 0)) (s .args .p .t) (commitment-size (s .pre .0) (w .ensures)) ∙ w .ensures
 
-array-borrow-prefix-commitment : tie.Need-array-borrow-prefix-commitment
-array-borrow-prefix-commitment c = search needs
-
 slice-aggregate-evaluate : tie.Need-slice-aggregate-evaluate
 slice-aggregate-evaluate c =
     let s = c .before .before .before .before .before in sym (length-take-le (s .args .p .t) (replicate 1152 0) (few (s .pre .0)))
@@ -101,9 +98,6 @@ sign-with-challenge-requires c κs =
       room = a .room;
     }
 
-same-length : tie.Need-same-length
-same-length c = search needs
-
 returns-2 : tie.Need-returns-2
 returns-2 c =
     let s = c .before .before .before .before .before .before .before .before .before .before .before .before .before .before .before .before .before in
@@ -116,16 +110,5 @@ returns-2 c =
 pub sign-with-mask-spec : {M : Type 1} → statement M
 sign-with-mask-spec =
     tie.close
-    (tie.spec
-    array-borrow-prefix-commitment
-    slice-aggregate-evaluate
-    evaluate-requires
-    array-share-prefix-commitment
-    slice-aggregate-challenge-of
-    challenge-of-requires
-    returns
-    array-share-prefix-c
-    slice-aggregate-sign-with-challenge
-    sign-with-challenge-requires
-    same-length
-    returns-2)
+    (tie.spec (λ c. search needs) slice-aggregate-evaluate evaluate-requires array-share-prefix-commitment slice-aggregate-challenge-of
+    challenge-of-requires returns array-share-prefix-c slice-aggregate-sign-with-challenge sign-with-challenge-requires (λ c. search needs) returns-2)

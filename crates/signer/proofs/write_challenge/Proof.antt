@@ -10,9 +10,6 @@ use Rattle.encoding.proofs.Buffer.{front-room, front-length}
 use Rattle.signer.proofs.write_challenge.Statement.{statement}
 use Rattle.signer.proofs.write_challenge.Tie as tie
 
-array-borrow-prefix-entries : tie.Need-array-borrow-prefix-entries
-array-borrow-prefix-entries c = search needs
-
 slice-aggregate-write-entries : tie.Need-slice-aggregate-write-entries
 slice-aggregate-write-entries c =
     let s = c .before .before in sym (length-take-le (s .args .b) (replicate 64 0) (s .pre .2))
@@ -38,9 +35,6 @@ write-words-requires c κs =
     let s = c .before .before .before .before .before .before in
     s .pre .3 ∙ ap (λ (n : ℕ). 2 * n) (slice-aggregate-write-words (c .before))
 
-same-length : tie.Need-same-length
-same-length c = search needs
-
 returns : tie.Need-returns
 returns c =
     let s = c .before .before .before .before .before .before .before .before .before in
@@ -51,12 +45,5 @@ returns c =
 pub write-challenge-spec : {M : Type 1} → statement M
 write-challenge-spec =
     tie.close
-    (tie.spec
-    array-borrow-prefix-entries
-    slice-aggregate-write-entries
-    write-entries-requires
-    array-share-prefix-entries
-    slice-aggregate-write-words
-    write-words-requires
-    same-length
-    returns)
+    (tie.spec (λ c. search needs) slice-aggregate-write-entries write-entries-requires array-share-prefix-entries slice-aggregate-write-words
+    write-words-requires (λ c. search needs) returns)

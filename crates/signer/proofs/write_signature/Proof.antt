@@ -19,27 +19,9 @@ use Rattle.signer.proofs.write_signature.Tie as tie
 challenge-size : {b : ℕ} {c z : List ℤ} {out u : List ℕ} → Writable b c z out → u ≡ encoded 2 (entriesOf c) → length u ≡ 2 * b
 challenge-size {c = c} a e = ap length e ∙ length-encoded 2 (entriesOf c) ∙ ap (λ (n : ℕ). 2 * n) (a .entries)
 
-slice-write-out : tie.Need-slice-write-out
-slice-write-out c = search needs
-
-mul-at : tie.Need-mul-at
-mul-at c = search needs
-
-add-at : tie.Need-add-at
-add-at c = search needs
-
-sub-write-challenge : tie.Need-sub-write-challenge
-sub-write-challenge c = search needs
-
-part-write-challenge-start : tie.Need-part-write-challenge-start
-part-write-challenge-start c = search needs
-
 part-write-challenge-end : tie.Need-part-write-challenge-end
 part-write-challenge-end c =
     let s = c .before in omega (arith, length-set (s .args .out .now) 0 (s .args .set))
-
-write-challenge-requires : tie.Need-write-challenge-requires
-write-challenge-requires c κs = search needs
 
 sub-write-signed-words : tie.Need-sub-write-signed-words
 sub-write-signed-words c =
@@ -47,9 +29,6 @@ sub-write-signed-words c =
 
 part-write-signed-words-start : tie.Need-part-write-signed-words-start
 part-write-signed-words-start c = sub-write-signed-words c
-
-part-write-signed-words-end : tie.Need-part-write-signed-words-end
-part-write-signed-words-end c = search needs
 
 write-signed-words-requires : tie.Need-write-signed-words-requires
 write-signed-words-requires c κs =
@@ -75,17 +54,5 @@ returns c =
 pub write-signature-spec : {M : Type 1} → statement M
 write-signature-spec =
     tie.close
-    (tie.spec
-    slice-write-out
-    mul-at
-    add-at
-    sub-write-challenge
-    part-write-challenge-start
-    part-write-challenge-end
-    write-challenge-requires
-    sub-write-signed-words
-    part-write-signed-words-start
-    part-write-signed-words-end
-    write-signed-words-requires
-    same-length
-    returns)
+    (tie.spec (λ c. search needs) (λ c. search needs) (λ c. search needs) (λ c. search needs) (λ c. search needs) part-write-challenge-end
+    (λ c κs. search needs) sub-write-signed-words part-write-signed-words-start (λ c. search needs) write-signed-words-requires same-length returns)

@@ -13,17 +13,8 @@ mul-product : tie.Need-mul-product
 mul-product c =
     omega (arith, product-below {m = 2 ^ 20} {n = 2 ^ 20} (lt-trans (c .pre .1) (c .pre .3)) (lt-trans (c .pre .2) (c .pre .3)))
 
-rem-product : tie.Need-rem-product
-rem-product c = search needs
-
-add-result : tie.Need-add-result
-add-result c = search needs
-
 sub-result : tie.Need-sub-result
 sub-result c = omega (arith, mod-lt (c .args .v * c .args .c) (lt-of-le-of-lt zero-le (c .pre .0)))
-
-rem-result : tie.Need-rem-result
-rem-result c = search needs
 
 cast-result : tie.Need-cast-result
 cast-result c = omega (arith, mod-lt (c .args .z + c .args .q - c .args .v * c .args .c % c .args .q) (lt-of-le-of-lt zero-le (c .pre .0)))
@@ -32,6 +23,4 @@ returns : tie.Need-returns
 returns c = difference-is (lt-of-le-of-lt zero-le (c .pre .0)) (c .args .z) (c .args .v * c .args .c)
 
 pub difference-spec : {M : Type 1} → statement M
-difference-spec =
-    tie.close
-    (tie.spec mul-product rem-product add-result sub-result rem-result cast-result returns)
+difference-spec = tie.close (tie.spec mul-product (λ c. search needs) (λ c. search needs) sub-result (λ c. search needs) cast-result returns)

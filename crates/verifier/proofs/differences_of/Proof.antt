@@ -18,41 +18,11 @@ abbrev μ-loop : tie.MeasureT-loop
 loop-holds : tie.Need-loop-holds Inv-loop μ-loop
 loop-holds c = (search needs, search needs, refl)
 
-mul-difference : tie.Need-mul-difference Inv-loop μ-loop
-mul-difference c = search needs
-
-shared-slice-read-difference : tie.Need-shared-slice-read-difference Inv-loop μ-loop
-shared-slice-read-difference c = search needs
-
-mul-difference-2 : tie.Need-mul-difference-2 Inv-loop μ-loop
-mul-difference-2 c = search needs
-
-shared-slice-read-difference-2 : tie.Need-shared-slice-read-difference-2 Inv-loop μ-loop
-shared-slice-read-difference-2 c = search needs
-
-mul-difference-3 : tie.Need-mul-difference-3 Inv-loop μ-loop
-mul-difference-3 c = search needs
-
-shared-slice-read-difference-3 : tie.Need-shared-slice-read-difference-3 Inv-loop μ-loop
-shared-slice-read-difference-3 c = search needs
-
 difference-requires : tie.Need-difference-requires Inv-loop μ-loop
 difference-requires c κs =
     let s = c .before .before .before .before .before .before .before .before in
     let i = c .before .before .before .before .loop .i in
     (s .pre .point-below i (omega arith), s .pre .evaluations-below i (omega arith), s .pre .challenge-below i (omega arith), s .pre .modulus)
-
-mul-out : tie.Need-mul-out Inv-loop μ-loop
-mul-out c = search needs
-
-array-write-out : tie.Need-array-write-out Inv-loop μ-loop
-array-write-out c = search needs
-
-add-i : tie.Need-add-i Inv-loop μ-loop
-add-i c = search needs
-
-loop-less : tie.Need-loop-less Inv-loop μ-loop
-loop-less c = search needs
 
 loop-again : tie.Need-loop-again Inv-loop μ-loop
 loop-again c =
@@ -74,20 +44,5 @@ returns c =
 pub differences-of-spec : {M : Type 1} → statement M
 differences-of-spec =
     tie.close
-    (tie.spec
-    Inv-loop
-    μ-loop
-    loop-holds
-    mul-difference
-    shared-slice-read-difference
-    mul-difference-2
-    shared-slice-read-difference-2
-    mul-difference-3
-    shared-slice-read-difference-3
-    difference-requires
-    mul-out
-    array-write-out
-    add-i
-    loop-less
-    loop-again
-    returns)
+    (tie.spec Inv-loop μ-loop loop-holds (λ c. search needs) (λ c. search needs) (λ c. search needs) (λ c. search needs) (λ c. search needs)
+    (λ c. search needs) difference-requires (λ c. search needs) (λ c. search needs) (λ c. search needs) (λ c. search needs) loop-again returns)

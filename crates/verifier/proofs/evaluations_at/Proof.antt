@@ -26,5 +26,4 @@ returns c =
     take-at _ _ (s .args .p .t) (ap length e ∙ length-evaluations (s .args .p) (s .args .f .now) (s .args .points .now) ∙ s .pre .1 .1) ∙ e
 
 pub evaluations-at-spec : {M : Type 1} → statement M
-evaluations-at-spec =
-    tie.close (tie.spec array-borrow-prefix-out slice-aggregate-evaluate evaluate-requires returns)
+evaluations-at-spec = tie.close (tie.spec array-borrow-prefix-out slice-aggregate-evaluate evaluate-requires returns)

@@ -24,21 +24,6 @@ abbrev μ-loop : tie.MeasureT-loop
 loop-holds : tie.Need-loop-holds Inv-loop μ-loop
 loop-holds c = (search needs, refl)
 
-shared-slice-copy-out-is-same : tie.Need-shared-slice-copy-out-is-same Inv-loop μ-loop
-shared-slice-copy-out-is-same c = search needs
-
-shared-slice-copy-out-is-same-2 : tie.Need-shared-slice-copy-out-is-same-2 Inv-loop μ-loop
-shared-slice-copy-out-is-same-2 c = search needs
-
-is-same-requires : tie.Need-is-same-requires Inv-loop μ-loop
-is-same-requires c κs = search needs
-
-add-i : tie.Need-add-i Inv-loop μ-loop
-add-i c = search needs
-
-loop-less : tie.Need-loop-less Inv-loop μ-loop
-loop-less c = search needs
-
 loop-again : tie.Need-loop-again Inv-loop μ-loop
 loop-again c =
     let s = c .before .before .before .before .before in
@@ -62,14 +47,5 @@ returns c =
 pub is-equal-spec : {M : Type 1} → statement M
 is-equal-spec =
     tie.close
-    (tie.spec
-    Inv-loop
-    μ-loop
-    loop-holds
-    shared-slice-copy-out-is-same
-    shared-slice-copy-out-is-same-2
-    is-same-requires
-    add-i
-    loop-less
-    loop-again
+    (tie.spec Inv-loop μ-loop loop-holds (λ c. search needs) (λ c. search needs) (λ c κs. search needs) (λ c. search needs) (λ c. search needs) loop-again
     returns)

@@ -7,9 +7,6 @@ use Rattle.verifier.proofs.Recovery.{evaluable, wide-evaluable, front-r
 use Rattle.verifier.proofs.recovered_commitment.Statement.{statement}
 use Rattle.verifier.proofs.recovered_commitment.Tie as tie
 
-wide-challenge-requires : tie.Need-wide-challenge-requires
-wide-challenge-requires c κs = search needs
-
 array-share-prefix-wide : tie.Need-array-share-prefix-wide
 array-share-prefix-wide c = search needs
 
@@ -58,15 +55,6 @@ returns c =
 pub recovered-commitment-spec : {M : Type 1} → statement M
 recovered-commitment-spec =
     tie.close
-    (tie.spec
-    wide-challenge-requires
-    array-share-prefix-wide
-    slice-aggregate-evaluations-at
-    evaluations-at-requires
-    evaluations-at-requires-2
-    array-share-prefix-of-point
-    slice-aggregate-differences-of
-    array-share-prefix-of-challenge
-    slice-aggregate-differences-of-2
-    differences-of-requires
+    (tie.spec (λ c κs. search needs) array-share-prefix-wide slice-aggregate-evaluations-at evaluations-at-requires evaluations-at-requires-2
+    array-share-prefix-of-point slice-aggregate-differences-of array-share-prefix-of-challenge slice-aggregate-differences-of-2 differences-of-requires
     returns)

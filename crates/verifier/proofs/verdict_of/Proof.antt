@@ -15,15 +15,6 @@ use Rattle.verifier.proofs.Verdict.{verdict-is}
 use Rattle.verifier.proofs.verdict_of.Statement.{statement}
 use Rattle.verifier.proofs.verdict_of.Tie as tie
 
-cast-in-range16 : tie.Need-cast-in-range16
-cast-in-range16 c = search needs
-
-sub-in-range16 : tie.Need-sub-in-range16
-sub-in-range16 c = search needs
-
-in-range16-requires : tie.Need-in-range16-requires
-in-range16-requires c κs = search needs
-
 recovered-commitment-requires : tie.Need-recovered-commitment-requires
 recovered-commitment-requires c κs = c .before .before .before .before .before .before .before .pre
 
@@ -79,17 +70,5 @@ returns-3 c =
 pub verdict-of-spec : {M : Type 1} → statement M
 verdict-of-spec =
     tie.close
-    (tie.spec
-    cast-in-range16
-    sub-in-range16
-    in-range16-requires
-    recovered-commitment-requires
-    array-share-prefix-commitment
-    slice-aggregate-challenge-of
-    challenge-of-requires
-    array-share-prefix-challenge
-    slice-aggregate-is-equal
-    is-equal-requires
-    returns
-    returns-2
-    returns-3)
+    (tie.spec (λ c. search needs) (λ c. search needs) (λ c κs. search needs) recovered-commitment-requires array-share-prefix-commitment
+    slice-aggregate-challenge-of challenge-of-requires array-share-prefix-challenge slice-aggregate-is-equal is-equal-requires returns returns-2 returns-3)

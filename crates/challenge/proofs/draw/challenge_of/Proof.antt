@@ -6,20 +6,10 @@ use Rattle.challenge.specs.Draw.{draw, drawChallenge}
 use Rattle.challenge.proofs.draw.challenge_of.Statement.{statement}
 use Rattle.challenge.proofs.draw.challenge_of.Tie as tie
 
-pool-of-requires : tie.Need-pool-of-requires
-pool-of-requires c κs = search needs
-
-slice-aggregate-draw-from : tie.Need-slice-aggregate-draw-from
-slice-aggregate-draw-from c = search needs
-
-draw-from-requires : tie.Need-draw-from-requires
-draw-from-requires c κs = search needs
-
 returns : tie.Need-returns
 unfolding drawChallenge
 returns c =
     c .draw-from .ensures ∙ ap (draw (c .before .before .before .before .before .args .p)) (c .before .before .pool-of .ensures)
 
 pub challenge-of-spec : {M : Type 1} → statement M
-challenge-of-spec =
-    tie.close (tie.spec pool-of-requires slice-aggregate-draw-from draw-from-requires returns)
+challenge-of-spec = tie.close (tie.spec (λ c κs. search needs) (λ c. search needs) (λ c κs. search needs) returns)

@@ -16,23 +16,11 @@ Inv-loop p pool limit values marks₀ challenge₀ count₀ m₀ marks challenge
 abbrev μ-loop : tie.MeasureT-loop
 μ-loop p pool limit values marks₀ challenge₀ count₀ m₀ marks challenge count m = values - m
 
-div-limit : tie.Need-div-limit Inv-loop μ-loop
-div-limit c = search needs
-
 mul-limit : tie.Need-mul-limit Inv-loop μ-loop
 mul-limit c = omega (arith, limit-small (c .before .before .before .args .p .n))
 
-sub-values : tie.Need-sub-values Inv-loop μ-loop
-sub-values c = search needs
-
 loop-holds : tie.Need-loop-holds Inv-loop μ-loop
 loop-holds c = let s = c .before .before .before in (omega arith, held-none (s .args .p) (s .args .pool .now) (s .pre .0 .size))
-
-value-at-requires : tie.Need-value-at-requires Inv-loop μ-loop
-value-at-requires c κs = omega arith
-
-rem-index : tie.Need-rem-index Inv-loop μ-loop
-rem-index c = omega arith
 
 array-read-if3 : tie.Need-array-read-if3 Inv-loop μ-loop
 array-read-if3 c = index-small _ (omega arith) (omega arith)
@@ -48,12 +36,6 @@ array-set-from-challenge c = index-small _ (omega arith) (omega arith)
 
 add-count : tie.Need-add-count Inv-loop μ-loop
 add-count c = omega (arith, ltb-true)
-
-add-m : tie.Need-add-m Inv-loop μ-loop
-add-m c = omega arith
-
-loop-less : tie.Need-loop-less Inv-loop μ-loop
-loop-less c = omega arith
 
 loop-again : tie.Need-loop-again Inv-loop μ-loop
 loop-again c =
@@ -83,21 +65,5 @@ returns c =
 pub draw-from-spec : {M : Type 1} → statement M
 draw-from-spec =
     tie.close
-    (tie.spec
-    Inv-loop
-    μ-loop
-    div-limit
-    mul-limit
-    sub-values
-    loop-holds
-    value-at-requires
-    rem-index
-    array-read-if3
-    array-write-marks
-    sign-at-requires
-    array-set-from-challenge
-    add-count
-    add-m
-    loop-less
-    loop-again
-    returns)
+    (tie.spec Inv-loop μ-loop (λ c. search needs) mul-limit (λ c. search needs) loop-holds (λ c κs. omega arith) (λ c. omega arith) array-read-if3
+    array-write-marks sign-at-requires array-set-from-challenge add-count (λ c. omega arith) (λ c. omega arith) loop-again returns)

@@ -6,15 +6,6 @@ use Rattle.challenge.specs.Draw.{signAt}
 use Rattle.challenge.proofs.draw.sign_at.Statement.{statement}
 use Rattle.challenge.proofs.draw.sign_at.Tie as tie
 
-shared-slice-read-byte : tie.Need-shared-slice-read-byte
-shared-slice-read-byte c = search needs
-
-cast-if1 : tie.Need-cast-if1
-cast-if1 c = search needs
-
-shr-if1 : tie.Need-shr-if1
-shr-if1 c = search needs
-
 returns : tie.Need-returns
 unfolding signAt
 returns c = rw (c .if1 .taken)
@@ -24,4 +15,4 @@ unfolding signAt
 returns-2 c = rw (ne-eqb _ 0 (c .if1 .left))
 
 pub sign-at-spec : {M : Type 1} → statement M
-sign-at-spec = tie.close (tie.spec shared-slice-read-byte cast-if1 shr-if1 returns returns-2)
+sign-at-spec = tie.close (tie.spec (λ c. search needs) (λ c. search needs) (λ c. search needs) returns returns-2)

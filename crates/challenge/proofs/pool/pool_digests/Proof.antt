@@ -10,57 +10,6 @@ use Rattle.challenge.proofs.Digests.{eight-digests}
 use Rattle.challenge.proofs.pool.pool_digests.Statement.{statement}
 use Rattle.challenge.proofs.pool.pool_digests.Tie as tie
 
-sha512-requires : tie.Need-sha512-requires
-sha512-requires c κs = search needs
-
-slice-aggregate-sha512-of-two : tie.Need-slice-aggregate-sha512-of-two
-slice-aggregate-sha512-of-two c = search needs
-
-sha512-of-two-requires : tie.Need-sha512-of-two-requires
-sha512-of-two-requires c κs = search needs
-
-slice-aggregate-sha512 : tie.Need-slice-aggregate-sha512
-slice-aggregate-sha512 c = search needs
-
-sha512-requires-2 : tie.Need-sha512-requires-2
-sha512-requires-2 c κs = search needs
-
-slice-aggregate-sha512-2 : tie.Need-slice-aggregate-sha512-2
-slice-aggregate-sha512-2 c = search needs
-
-sha512-requires-3 : tie.Need-sha512-requires-3
-sha512-requires-3 c κs = search needs
-
-slice-aggregate-sha512-3 : tie.Need-slice-aggregate-sha512-3
-slice-aggregate-sha512-3 c = search needs
-
-sha512-requires-4 : tie.Need-sha512-requires-4
-sha512-requires-4 c κs = search needs
-
-slice-aggregate-sha512-4 : tie.Need-slice-aggregate-sha512-4
-slice-aggregate-sha512-4 c = search needs
-
-sha512-requires-5 : tie.Need-sha512-requires-5
-sha512-requires-5 c κs = search needs
-
-slice-aggregate-sha512-5 : tie.Need-slice-aggregate-sha512-5
-slice-aggregate-sha512-5 c = search needs
-
-sha512-requires-6 : tie.Need-sha512-requires-6
-sha512-requires-6 c κs = search needs
-
-slice-aggregate-sha512-6 : tie.Need-slice-aggregate-sha512-6
-slice-aggregate-sha512-6 c = search needs
-
-sha512-requires-7 : tie.Need-sha512-requires-7
-sha512-requires-7 c κs = search needs
-
-slice-aggregate-sha512-7 : tie.Need-slice-aggregate-sha512-7
-slice-aggregate-sha512-7 c = search needs
-
-sha512-requires-8 : tie.Need-sha512-requires-8
-sha512-requires-8 c κs = search needs
-
 returns : tie.Need-returns
 unfolding poolDigests
 returns c =
@@ -80,22 +29,6 @@ returns c =
 pub pool-digests-spec : {M : Type 1} → statement M
 pool-digests-spec =
     tie.close
-    (tie.spec
-    sha512-requires
-    slice-aggregate-sha512-of-two
-    sha512-of-two-requires
-    slice-aggregate-sha512
-    sha512-requires-2
-    slice-aggregate-sha512-2
-    sha512-requires-3
-    slice-aggregate-sha512-3
-    sha512-requires-4
-    slice-aggregate-sha512-4
-    sha512-requires-5
-    slice-aggregate-sha512-5
-    sha512-requires-6
-    slice-aggregate-sha512-6
-    sha512-requires-7
-    slice-aggregate-sha512-7
-    sha512-requires-8
-    returns)
+    (tie.spec (λ c κs. search needs) (λ c. search needs) (λ c κs. search needs) (λ c. search needs) (λ c κs. search needs) (λ c. search needs)
+    (λ c κs. search needs) (λ c. search needs) (λ c κs. search needs) (λ c. search needs) (λ c κs. search needs) (λ c. search needs)
+    (λ c κs. search needs) (λ c. search needs) (λ c κs. search needs) (λ c. search needs) (λ c κs. search needs) returns)

@@ -12,17 +12,8 @@ use Rattle.challenge.proofs.Digests.{pool-sized}
 use Rattle.challenge.proofs.pool.pool_of.Statement.{statement}
 use Rattle.challenge.proofs.pool.pool_of.Tie as tie
 
-commitment-bytes-requires : tie.Need-commitment-bytes-requires
-commitment-bytes-requires c κs = search needs
-
-array-share-prefix-bytes : tie.Need-array-share-prefix-bytes
-array-share-prefix-bytes c = search needs
-
 slice-aggregate-pool-digests : tie.Need-slice-aggregate-pool-digests
 slice-aggregate-pool-digests c = sym (length-take-le (length (c .before .before .before .before .args .evaluations .now)) (c .before .commitment-bytes .result) (omega arith))
-
-pool-digests-requires : tie.Need-pool-digests-requires
-pool-digests-requires c κs = search needs
 
 flat-requires : tie.Need-flat-requires
 flat-requires c κs = rw (c .pool-digests .ensures) (pool-sized _ _)
@@ -38,11 +29,4 @@ returns c =
 
 pub pool-of-spec : {M : Type 1} → statement M
 pool-of-spec =
-    tie.close
-    (tie.spec
-    commitment-bytes-requires
-    array-share-prefix-bytes
-    slice-aggregate-pool-digests
-    pool-digests-requires
-    flat-requires
-    returns)
+    tie.close (tie.spec (λ c κs. search needs) (λ c. search needs) slice-aggregate-pool-digests (λ c κs. search needs) flat-requires returns)

@@ -9,18 +9,6 @@ use native.Mathlib.Omega.{arith}
 use Rattle.encoding.proofs.challenge_entries.coefficient_at.Statement.{statement}
 use Rattle.encoding.proofs.challenge_entries.coefficient_at.Tie as tie
 
-mul-entry : tie.Need-mul-entry
-mul-entry c = omega arith
-
-shared-slice-read-entry : tie.Need-shared-slice-read-entry
-shared-slice-read-entry c = omega arith
-
-index-of-requires : tie.Need-index-of-requires
-index-of-requires c κs = search needs
-
-coefficient-of-requires : tie.Need-coefficient-of-requires
-coefficient-of-requires c κs = search needs
-
 returns : tie.Need-returns
 returns c = let p = c .before .before .before .before .before .before .args in
     reread w8 (c .coefficient-of .result) (c .coefficient-of .ok) ∙ c .coefficient-of .ensures
@@ -35,12 +23,4 @@ returns-3 c = let p = c .before .before .args in at-end (p .entries .now) (p .k)
 
 pub coefficient-at-spec : {M : Type 1} → statement M
 coefficient-at-spec =
-    tie.close
-    (tie.spec
-    mul-entry
-    shared-slice-read-entry
-    index-of-requires
-    coefficient-of-requires
-    returns
-    returns-2
-    returns-3)
+    tie.close (tie.spec (λ c. omega arith) (λ c. omega arith) (λ c κs. search needs) (λ c κs. search needs) returns returns-2 returns-3)

@@ -7,15 +7,6 @@ use Rattle.algebra.proofs.Signed.{negative, natural}
 use Rattle.encoding.proofs.challenge_entries.entry_of.Statement.{statement}
 use Rattle.encoding.proofs.challenge_entries.entry_of.Tie as tie
 
-cast-result : tie.Need-cast-result
-cast-result c = omega arith
-
-add-result : tie.Need-add-result
-add-result c = omega arith
-
-cast-result-2 : tie.Need-cast-result-2
-cast-result-2 c = omega arith
-
 returns : tie.Need-returns
 returns c = let s = c .before in ap (entryOf (s .args .i)) (sym (negative (s .fits .a) (c .if1 .taken)))
 
@@ -23,4 +14,4 @@ returns-2 : tie.Need-returns-2
 returns-2 c = let s = c .before in ap (entryOf (s .args .i)) (sym (natural (s .fits .a) (c .if1 .left)))
 
 pub entry-of-spec : {M : Type 1} → statement M
-entry-of-spec = tie.close (tie.spec cast-result add-result cast-result-2 returns returns-2)
+entry-of-spec = tie.close (tie.spec (λ c. omega arith) (λ c. omega arith) (λ c. omega arith) returns returns-2)

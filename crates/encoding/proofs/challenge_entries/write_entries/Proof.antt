@@ -24,15 +24,6 @@ abbrev μ-loop : tie.MeasureT-loop
 loop-holds : tie.Need-loop-holds Inv-loop μ-loop
 loop-holds c = (search needs, search needs, refl, refl)
 
-shared-slice-copy-out-a : tie.Need-shared-slice-copy-out-a Inv-loop μ-loop
-shared-slice-copy-out-a c = search needs
-
-entry-of-requires : tie.Need-entry-of-requires Inv-loop μ-loop
-entry-of-requires c κs = search needs
-
-mul-entries : tie.Need-mul-entries Inv-loop μ-loop
-mul-entries c = omega arith
-
 slice-write-entries : tie.Need-slice-write-entries Inv-loop μ-loop
 slice-write-entries c = let l = c .before .before .before .before .loop in
     let s = c .before .before .before .before .before .before in
@@ -40,12 +31,6 @@ slice-write-entries c = let l = c .before .before .before .before .loop in
 
 add-k : tie.Need-add-k Inv-loop μ-loop
 add-k c = let r = slice-write-entries c in omega arith
-
-add-i : tie.Need-add-i Inv-loop μ-loop
-add-i c = omega arith
-
-loop-less : tie.Need-loop-less Inv-loop μ-loop
-loop-less c = omega arith
 
 loop-again : tie.Need-loop-again Inv-loop μ-loop
 loop-again c = let l = c .before .before .before .loop in
@@ -77,17 +62,5 @@ returns c = let l = c .before .loop in
 pub write-entries-spec : {M : Type 1} → statement M
 write-entries-spec =
     tie.close
-    (tie.spec
-    Inv-loop
-    μ-loop
-    loop-holds
-    shared-slice-copy-out-a
-    entry-of-requires
-    mul-entries
-    slice-write-entries
-    add-k
-    add-i
-    loop-less
-    loop-again
-    same-length
-    returns)
+    (tie.spec Inv-loop μ-loop loop-holds (λ c. search needs) (λ c κs. search needs) (λ c. omega arith) slice-write-entries add-k (λ c. omega arith)
+    (λ c. omega arith) loop-again same-length returns)

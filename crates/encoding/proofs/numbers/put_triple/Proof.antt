@@ -9,26 +9,8 @@ use native.Mathlib.Omega.{arith}
 use Rattle.encoding.proofs.numbers.put_triple.Statement.{statement}
 use Rattle.encoding.proofs.numbers.put_triple.Tie as tie
 
-cast-out : tie.Need-cast-out
-cast-out c = omega arith
-
-slice-write-out : tie.Need-slice-write-out
-slice-write-out c = omega arith
-
-cast-out-2 : tie.Need-cast-out-2
-cast-out-2 c = omega arith
-
-add-out : tie.Need-add-out
-add-out c = omega arith
-
 slice-write-out-2 : tie.Need-slice-write-out-2
 slice-write-out-2 c = simp length-set (omega arith)
-
-cast-out-3 : tie.Need-cast-out-3
-cast-out-3 c = omega arith
-
-add-out-2 : tie.Need-add-out-2
-add-out-2 c = omega arith
 
 slice-write-out-3 : tie.Need-slice-write-out-3
 slice-write-out-3 c = simp length-set (omega arith)
@@ -43,14 +25,5 @@ returns c = let e : c .args .at + 2 ≡ suc (suc (c .args .at)) = omega arith in
 pub put-triple-spec : {M : Type 1} → statement M
 put-triple-spec =
     tie.close
-    (tie.spec
-    cast-out
-    slice-write-out
-    cast-out-2
-    add-out
-    slice-write-out-2
-    cast-out-3
-    add-out-2
-    slice-write-out-3
-    same-length
-    returns)
+    (tie.spec (λ c. omega arith) (λ c. omega arith) (λ c. omega arith) (λ c. omega arith) slice-write-out-2 (λ c. omega arith) (λ c. omega arith)
+    slice-write-out-3 same-length returns)

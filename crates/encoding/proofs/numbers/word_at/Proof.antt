@@ -6,43 +6,11 @@ use native.Mathlib.Omega.{arith}
 use Rattle.encoding.proofs.numbers.word_at.Statement.{statement}
 use Rattle.encoding.proofs.numbers.word_at.Tie as tie
 
-shared-slice-read-wide : tie.Need-shared-slice-read-wide
-shared-slice-read-wide c = omega arith
-
-wide-requires : tie.Need-wide-requires
-wide-requires c κs = search needs
-
-mul-result : tie.Need-mul-result
-mul-result c = omega arith
-
-add-wide : tie.Need-add-wide
-add-wide c = omega arith
-
-shared-slice-read-wide-2 : tie.Need-shared-slice-read-wide-2
-shared-slice-read-wide-2 c = omega arith
-
-wide-requires-2 : tie.Need-wide-requires-2
-wide-requires-2 c κs = search needs
-
-add-result : tie.Need-add-result
-add-result c = omega arith
-
-cast-result : tie.Need-cast-result
-cast-result c = omega arith
-
 returns : tie.Need-returns
 returns c = let s = c .before .before .before .before .before in omega (arith, value-two (s .args .bytes .now) (s .args .at) (s .pre))
 
 pub word-at-spec : {M : Type 1} → statement M
 word-at-spec =
     tie.close
-    (tie.spec
-    shared-slice-read-wide
-    wide-requires
-    mul-result
-    add-wide
-    shared-slice-read-wide-2
-    wide-requires-2
-    add-result
-    cast-result
-    returns)
+    (tie.spec (λ c. omega arith) (λ c κs. search needs) (λ c. omega arith) (λ c. omega arith) (λ c. omega arith) (λ c κs. search needs) (λ c. omega arith)
+    (λ c. omega arith) returns)

@@ -18,24 +18,6 @@ abbrev μ-loop : tie.MeasureT-loop
 loop-holds : tie.Need-loop-holds Inv-loop μ-loop
 loop-holds c = let s = c .before .before in (search needs, written-none 3 (s .args .values .now) (s .args .out .now) (s .pre))
 
-mul-put-triple : tie.Need-mul-put-triple Inv-loop μ-loop
-mul-put-triple c = omega arith
-
-mul-put-triple-2 : tie.Need-mul-put-triple-2 Inv-loop μ-loop
-mul-put-triple-2 c = omega arith
-
-shared-slice-read-put-triple : tie.Need-shared-slice-read-put-triple Inv-loop μ-loop
-shared-slice-read-put-triple c = omega arith
-
-put-triple-requires : tie.Need-put-triple-requires Inv-loop μ-loop
-put-triple-requires c κs = search needs
-
-add-i : tie.Need-add-i Inv-loop μ-loop
-add-i c = omega arith
-
-loop-less : tie.Need-loop-less Inv-loop μ-loop
-loop-less c = omega arith
-
 loop-again : tie.Need-loop-again Inv-loop μ-loop
 loop-again c = let l = c .before .before .before .before .before .before .loop in
     (omega arith, written-more 3 _ (l .out) (l .i) (omega arith) (l .inv .1) refl (c .before .before .put-triple .ensures))
@@ -50,16 +32,5 @@ returns c = let l = c .before .loop in
 pub write-triples-spec : {M : Type 1} → statement M
 write-triples-spec =
     tie.close
-    (tie.spec
-    Inv-loop
-    μ-loop
-    loop-holds
-    mul-put-triple
-    mul-put-triple-2
-    shared-slice-read-put-triple
-    put-triple-requires
-    add-i
-    loop-less
-    loop-again
-    same-length
-    returns)
+    (tie.spec Inv-loop μ-loop loop-holds (λ c. omega arith) (λ c. omega arith) (λ c. omega arith) (λ c κs. search needs) (λ c. omega arith)
+    (λ c. omega arith) loop-again same-length returns)

@@ -20,21 +20,6 @@ abbrev μ-loop : tie.MeasureT-loop
 loop-holds : tie.Need-loop-holds Inv-loop μ-loop
 loop-holds c = (search needs, refl)
 
-mul-is-below : tie.Need-mul-is-below Inv-loop μ-loop
-mul-is-below c = omega arith
-
-shared-slice-read-is-below : tie.Need-shared-slice-read-is-below Inv-loop μ-loop
-shared-slice-read-is-below c = omega arith
-
-is-below-requires : tie.Need-is-below-requires Inv-loop μ-loop
-is-below-requires c κs = search needs
-
-add-i : tie.Need-add-i Inv-loop μ-loop
-add-i c = omega arith
-
-loop-less : tie.Need-loop-less Inv-loop μ-loop
-loop-less c = omega arith
-
 loop-again : tie.Need-loop-again Inv-loop μ-loop
 loop-again c = let l = c .before .before .before .loop in
     (omega arith, all-step (λ (v : ℕ). ltb v (c .before .before .before .before .before .args .q)) _ (l .i) 0 (omega arith) (l .inv .1) (c .is-below .ensures))
@@ -45,14 +30,5 @@ returns c = let l = c .before .loop in all-done (λ (v : ℕ). ltb v (c .before 
 pub are-below-spec : {M : Type 1} → statement M
 are-below-spec =
     tie.close
-    (tie.spec
-    Inv-loop
-    μ-loop
-    loop-holds
-    mul-is-below
-    shared-slice-read-is-below
-    is-below-requires
-    add-i
-    loop-less
-    loop-again
+    (tie.spec Inv-loop μ-loop loop-holds (λ c. omega arith) (λ c. omega arith) (λ c κs. search needs) (λ c. omega arith) (λ c. omega arith) loop-again
     returns)

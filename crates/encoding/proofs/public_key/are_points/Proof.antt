@@ -20,26 +20,11 @@ abbrev μ-loop : tie.MeasureT-loop
 loop-holds : tie.Need-loop-holds Inv-loop μ-loop
 loop-holds c = (search needs, refl)
 
-mul-j : tie.Need-mul-j Inv-loop μ-loop
-mul-j c = omega arith
-
-shared-slice-read-j : tie.Need-shared-slice-read-j Inv-loop μ-loop
-shared-slice-read-j c = omega arith
-
 cast-j : tie.Need-cast-j Inv-loop μ-loop
 cast-j c = omega (arith, c .shared-slice-known2 .given (c .before .before .loop .i))
 
-is-next-requires : tie.Need-is-next-requires Inv-loop μ-loop
-is-next-requires c κs = search needs
-
 add-from : tie.Need-add-from Inv-loop μ-loop
 add-from c = omega (arith, c .before .shared-slice-known2 .given (c .before .before .before .loop .i))
-
-add-i : tie.Need-add-i Inv-loop μ-loop
-add-i c = omega arith
-
-loop-less : tie.Need-loop-less Inv-loop μ-loop
-loop-less c = omega arith
 
 loop-again : tie.Need-loop-again Inv-loop μ-loop
 loop-again c = let l = c .before .before .before .loop in
@@ -51,16 +36,5 @@ returns c = let l = c .before .loop in increasing-done _ _ (l .from) (l .i) (ome
 pub are-points-spec : {M : Type 1} → statement M
 are-points-spec =
     tie.close
-    (tie.spec
-    Inv-loop
-    μ-loop
-    loop-holds
-    mul-j
-    shared-slice-read-j
-    cast-j
-    is-next-requires
-    add-from
-    add-i
-    loop-less
-    loop-again
-    returns)
+    (tie.spec Inv-loop μ-loop loop-holds (λ c. omega arith) (λ c. omega arith) cast-j (λ c κs. search needs) add-from (λ c. omega arith)
+    (λ c. omega arith) loop-again returns)

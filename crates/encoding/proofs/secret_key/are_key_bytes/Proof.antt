@@ -20,18 +20,6 @@ abbrev μ-loop : tie.MeasureT-loop
 loop-holds : tie.Need-loop-holds Inv-loop μ-loop
 loop-holds c = (search needs, refl)
 
-shared-slice-read-is-key-byte : tie.Need-shared-slice-read-is-key-byte Inv-loop μ-loop
-shared-slice-read-is-key-byte c = omega arith
-
-is-key-byte-requires : tie.Need-is-key-byte-requires Inv-loop μ-loop
-is-key-byte-requires c κs = search needs
-
-add-i : tie.Need-add-i Inv-loop μ-loop
-add-i c = omega arith
-
-loop-less : tie.Need-loop-less Inv-loop μ-loop
-loop-less c = omega arith
-
 loop-again : tie.Need-loop-again Inv-loop μ-loop
 loop-again c = let l = c .before .before .before .loop in
     (omega arith, all-step isKeyByte _ (l .i) 0 (omega arith) (l .inv .1) (c .is-key-byte .ensures))
@@ -41,14 +29,4 @@ returns c = let l = c .before .loop in all-done isKeyByte _ (l .i) (omega arith)
 
 pub are-key-bytes-spec : {M : Type 1} → statement M
 are-key-bytes-spec =
-    tie.close
-    (tie.spec
-    Inv-loop
-    μ-loop
-    loop-holds
-    shared-slice-read-is-key-byte
-    is-key-byte-requires
-    add-i
-    loop-less
-    loop-again
-    returns)
+    tie.close (tie.spec Inv-loop μ-loop loop-holds (λ c. omega arith) (λ c κs. search needs) (λ c. omega arith) (λ c. omega arith) loop-again returns)

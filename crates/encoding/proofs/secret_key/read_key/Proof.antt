@@ -21,24 +21,6 @@ abbrev μ-loop : tie.MeasureT-loop
 loop-holds : tie.Need-loop-holds Inv-loop μ-loop
 loop-holds c = (search needs, refl, refl)
 
-shared-slice-read-key-coefficient : tie.Need-shared-slice-read-key-coefficient Inv-loop μ-loop
-shared-slice-read-key-coefficient c = omega arith
-
-key-coefficient-requires : tie.Need-key-coefficient-requires Inv-loop μ-loop
-key-coefficient-requires c κs = search needs
-
-mul-t4 : tie.Need-mul-t4 Inv-loop μ-loop
-mul-t4 c = omega arith
-
-slice-set-from-out : tie.Need-slice-set-from-out Inv-loop μ-loop
-slice-set-from-out c = search needs
-
-add-i : tie.Need-add-i Inv-loop μ-loop
-add-i c = omega arith
-
-loop-less : tie.Need-loop-less Inv-loop μ-loop
-loop-less c = omega arith
-
 loop-again : tie.Need-loop-again Inv-loop μ-loop
 loop-again c = let l = c .before .before .before .loop in (
   omega arith,
@@ -55,16 +37,5 @@ returns c = let l = c .before .loop in mapped-all keyCoefficient _ (l .out) (l .
 pub read-key-spec : {M : Type 1} → statement M
 read-key-spec =
     tie.close
-    (tie.spec
-    Inv-loop
-    μ-loop
-    loop-holds
-    shared-slice-read-key-coefficient
-    key-coefficient-requires
-    mul-t4
-    slice-set-from-out
-    add-i
-    loop-less
-    loop-again
-    same-length
-    returns)
+    (tie.spec Inv-loop μ-loop loop-holds (λ c. omega arith) (λ c κs. search needs) (λ c. omega arith) (λ c. search needs) (λ c. omega arith)
+    (λ c. omega arith) loop-again same-length returns)

@@ -33,5 +33,4 @@ returns-2 c = let s = c .before in
     rw (toZ-ofZ (s .fits .value)) (ap natAbs e ∙ ap bits16 (sym e))
 
 pub bits-of-spec : {M : Type 1} → statement M
-bits-of-spec =
-    tie.close (tie.spec sub-result cast-result sub-result-2 cast-result-2 returns returns-2)
+bits-of-spec = tie.close (tie.spec sub-result cast-result sub-result-2 cast-result-2 returns returns-2)

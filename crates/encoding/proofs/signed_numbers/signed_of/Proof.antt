@@ -9,15 +9,6 @@ use native.Mathlib.Omega.{arith}
 use Rattle.encoding.proofs.signed_numbers.signed_of.Statement.{statement}
 use Rattle.encoding.proofs.signed_numbers.signed_of.Tie as tie
 
-cast-result : tie.Need-cast-result
-cast-result c = omega arith
-
-sub-result : tie.Need-sub-result
-sub-result c = search needs
-
-cast-result-2 : tie.Need-cast-result-2
-cast-result-2 c = omega arith
-
 sub-result-2 : tie.Need-sub-result-2
 sub-result-2 c = rw (minus-bits (c .before .args .value) (c .if1 .left)) (record { sfits = omega arith })
 
@@ -29,5 +20,4 @@ returns-2 c = let v = c .before .args .value in
     rw (minus-bits v (c .if1 .left)) (toZ-ofZ {w = w16} (record { sfits = omega arith }) ∙ signed-high v (c .if1 .left))
 
 pub signed-of-spec : {M : Type 1} → statement M
-signed-of-spec =
-    tie.close (tie.spec cast-result sub-result cast-result-2 sub-result-2 returns returns-2)
+signed-of-spec = tie.close (tie.spec (λ c. omega arith) (λ c. search needs) (λ c. omega arith) sub-result-2 returns returns-2)

@@ -27,15 +27,6 @@ loop-holds c = let s = c .before in
     let n = length-map (s .args .values .now) bits16 in
     (search needs, written-none 2 (map bits16 (s .args .values .now)) (s .args .out .now) (omega (arith, s .pre .0)))
 
-mul-put-word : tie.Need-mul-put-word Inv-loop μ-loop
-mul-put-word c = omega arith
-
-mul-bits-of : tie.Need-mul-bits-of Inv-loop μ-loop
-mul-bits-of c = omega arith
-
-shared-slice-copy-out-bits-of : tie.Need-shared-slice-copy-out-bits-of Inv-loop μ-loop
-shared-slice-copy-out-bits-of c = search needs
-
 bits-of-requires : tie.Need-bits-of-requires Inv-loop μ-loop
 bits-of-requires c κs = let s = c .before .before .before .before .before in
     let l = c .before .before .before .loop in
@@ -45,12 +36,6 @@ bits-of-requires c κs = let s = c .before .before .before .before .before in
 
 put-word-requires : tie.Need-put-word-requires Inv-loop μ-loop
 put-word-requires c κs = omega (arith, length-map (c .before .before .before .before .before .before .args .values .now) bits16)
-
-add-i : tie.Need-add-i Inv-loop μ-loop
-add-i c = omega arith
-
-loop-less : tie.Need-loop-less Inv-loop μ-loop
-loop-less c = omega arith
 
 loop-again : tie.Need-loop-again Inv-loop μ-loop
 loop-again c = let l = c .before .before .before .before .before .before .before .loop in
@@ -74,17 +59,5 @@ returns c = let l = c .before .loop in
 pub write-signed-words-spec : {M : Type 1} → statement M
 write-signed-words-spec =
     tie.close
-    (tie.spec
-    Inv-loop
-    μ-loop
-    loop-holds
-    mul-put-word
-    mul-bits-of
-    shared-slice-copy-out-bits-of
-    bits-of-requires
-    put-word-requires
-    add-i
-    loop-less
-    loop-again
-    same-length
-    returns)
+    (tie.spec Inv-loop μ-loop loop-holds (λ c. omega arith) (λ c. omega arith) (λ c. search needs) bits-of-requires put-word-requires (λ c. omega arith)
+    (λ c. omega arith) loop-again same-length returns)

@@ -25,12 +25,6 @@ returns : tie.Need-returns
 unfolding drawRefusal drawWritten
 returns c = rw (le-ltb _ 5 (c .if1 .taken)) (refl, refl)
 
-params-of-requires : tie.Need-params-of-requires
-params-of-requires c κs = search needs
-
-is-pool-size-requires : tie.Need-is-pool-size-requires
-is-pool-size-requires c κs = search needs
-
 returns-2 : tie.Need-returns-2
 unfolding drawRefusal drawWritten
 returns-2 c =
@@ -77,9 +71,6 @@ slice-aggregate-copy c = sym (length-take-le _ (c .before .before .before .befor
 copy-requires : tie.Need-copy-requires
 copy-requires c κs = c .before .before .before .before .before .before .if3 .left ∙ slice-aggregate-copy (c .before)
 
-same-length : tie.Need-same-length
-same-length c = search needs
-
 returns-5 : tie.Need-returns-5
 unfolding drawRefusal drawWritten
 returns-5 c =
@@ -98,16 +89,5 @@ returns-5 c =
 pub draw-spec : {M : Type 1} → statement M
 draw-spec =
     tie.close
-    (tie.spec
-    returns
-    params-of-requires
-    is-pool-size-requires
-    returns-2
-    returns-3
-    draw-from-requires
-    returns-4
-    array-share-prefix-c
-    slice-aggregate-copy
-    copy-requires
-    same-length
-    returns-5)
+    (tie.spec returns (λ c κs. search needs) (λ c κs. search needs) returns-2 returns-3 draw-from-requires returns-4 array-share-prefix-c
+    slice-aggregate-copy copy-requires (λ c. search needs) returns-5)

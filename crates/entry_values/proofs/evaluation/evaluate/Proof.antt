@@ -34,12 +34,6 @@ returns : tie.Need-returns
 unfolding evaluateRefusal evaluateWritten
 returns c = rw (le-ltb _ 5 (c .if1 .taken)) (refl, refl)
 
-params-of-requires : tie.Need-params-of-requires
-params-of-requires c κs = search needs
-
-refusal-in-requires : tie.Need-refusal-in-requires
-refusal-in-requires c κs = search needs
-
 returns-2 : tie.Need-returns-2
 unfolding evaluateRefusal evaluateWritten
 returns-2 c =
@@ -47,9 +41,6 @@ returns-2 c =
     let known : s .before .before .before .before .args .set < 5 = omega arith in
     rw (lt-ltb _ 5 known, ← s .params-of .ensures, ← c .before .refusal-in .ensures)
     (refused _ (c .if2 .taken), kept _ _ _ (c .if2 .taken))
-
-powers-of-requires : tie.Need-powers-of-requires
-powers-of-requires c κs = search needs
 
 array-share-prefix-table : tie.Need-array-share-prefix-table
 array-share-prefix-table c =
@@ -70,9 +61,6 @@ evaluate-requires c κs =
       (points-below (g .params-of .result) (s .points .now) (a .2), a .1),
     )
 
-same-length : tie.Need-same-length
-same-length c = search needs
-
 returns-3 : tie.Need-returns-3
 unfolding evaluateRefusal evaluateWritten
 returns-3 c =
@@ -85,14 +73,5 @@ returns-3 c =
 pub evaluate-spec : {M : Type 1} → statement M
 evaluate-spec =
     tie.close
-    (tie.spec
-    returns
-    params-of-requires
-    refusal-in-requires
-    returns-2
-    powers-of-requires
-    array-share-prefix-table
-    slice-aggregate-evaluate
-    evaluate-requires
-    same-length
-    returns-3)
+    (tie.spec returns (λ c κs. search needs) (λ c κs. search needs) returns-2 (λ c κs. search needs) array-share-prefix-table slice-aggregate-evaluate
+    evaluate-requires (λ c. search needs) returns-3)

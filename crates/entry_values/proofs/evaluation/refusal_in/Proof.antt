@@ -19,9 +19,6 @@ returns-3 : tie.Need-returns-3
 unfolding evaluateRefusalIn
 returns-3 c = rw (eq-eqb _ _ (c .before .before .if1 .left), eq-eqb _ _ (c .before .if2 .left), ne-eqb _ _ (c .if3 .taken))
 
-are-points-requires : tie.Need-are-points-requires
-are-points-requires c κs = search needs
-
 returns-4 : tie.Need-returns-4
 unfolding evaluateRefusalIn
 returns-4 c =
@@ -35,5 +32,4 @@ returns-5 c =
     rw (eq-eqb _ _ (s .before .before .if1 .left), eq-eqb _ _ (s .before .if2 .left), eq-eqb _ _ (s .if3 .left), sym (c .before .are-points .ensures) ∙ c .if4 .left)
 
 pub refusal-in-spec : {M : Type 1} → statement M
-refusal-in-spec =
-    tie.close (tie.spec returns returns-2 returns-3 are-points-requires returns-4 returns-5)
+refusal-in-spec = tie.close (tie.spec returns returns-2 returns-3 (λ c κs. search needs) returns-4 returns-5)

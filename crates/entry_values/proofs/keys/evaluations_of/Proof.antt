@@ -19,9 +19,6 @@ coefficients-of-requires c κs =
     let s = c .before .before in
     (s .pre .1 .0, lookup-fitting _ (s .pre .0 .0) (s .pre .0 .1) .size)
 
-powers-of-requires : tie.Need-powers-of-requires
-powers-of-requires c κs = search needs
-
 array-share-prefix-table : tie.Need-array-share-prefix-table
 array-share-prefix-table c =
     let s = c .before .before .before .before in
@@ -71,14 +68,5 @@ returns c =
 pub evaluations-of-spec : {M : Type 1} → statement M
 evaluations-of-spec =
     tie.close
-    (tie.spec
-    coefficients-of-requires
-    powers-of-requires
-    array-share-prefix-table
-    slice-aggregate-evaluate
-    array-share-prefix-f
-    slice-aggregate-evaluate-2
-    array-borrow-prefix-values
-    slice-aggregate-evaluate-3
-    evaluate-requires
-    returns)
+    (tie.spec coefficients-of-requires (λ c κs. search needs) array-share-prefix-table slice-aggregate-evaluate array-share-prefix-f
+    slice-aggregate-evaluate-2 array-borrow-prefix-values slice-aggregate-evaluate-3 evaluate-requires returns)

@@ -33,15 +33,9 @@ returns : tie.Need-returns
 unfolding publicKeyRefusal publicKeyWritten
 returns c = rw (eq-eqb _ 0 (c .if1 .taken)) (refl, refl)
 
-shared-slice-read-set : tie.Need-shared-slice-read-set
-shared-slice-read-set c = search needs
-
 returns-2 : tie.Need-returns-2
 unfolding publicKeyRefusal publicKeyWritten
 returns-2 c = rw (ne-eqb _ 0 (c .before .before .if1 .left), le-ltb _ 5 (c .if2 .taken)) (refl, refl)
-
-params-of-requires : tie.Need-params-of-requires
-params-of-requires c κs = search needs
 
 refusal-in-requires : tie.Need-refusal-in-requires
 refusal-in-requires c κs = lookup-fitting _ (omega arith) (c .params-of .ensures)
@@ -74,9 +68,6 @@ put-public-key-requires c κs =
     let a = allowed (c .before .before .before .before .before .params-of .result) (s .secret-key .now) (s .points .now) (length (s .out .now)) (sym (c .before .before .before .before .refusal-in .ensures) ∙ c .before .before .before .if3 .left) in
     omega (arith, a .1, a .2, slice-aggregate-put-public-key (c .before))
 
-same-length : tie.Need-same-length
-same-length c = search needs
-
 returns-4 : tie.Need-returns-4
 unfolding publicKeyRefusal publicKeyIn publicKeyWritten
 returns-4 c =
@@ -88,16 +79,5 @@ returns-4 c =
 pub public-key-spec : {M : Type 1} → statement M
 public-key-spec =
     tie.close
-    (tie.spec
-    returns
-    shared-slice-read-set
-    returns-2
-    params-of-requires
-    refusal-in-requires
-    returns-3
-    evaluations-of-requires
-    array-share-prefix-values
-    slice-aggregate-put-public-key
-    put-public-key-requires
-    same-length
-    returns-4)
+    (tie.spec returns (λ c. search needs) returns-2 (λ c κs. search needs) refusal-in-requires returns-3 evaluations-of-requires array-share-prefix-values
+    slice-aggregate-put-public-key put-public-key-requires (λ c. search needs) returns-4)

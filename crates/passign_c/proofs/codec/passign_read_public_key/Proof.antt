@@ -7,21 +7,8 @@ use borrow.Author.Needs.{needs}
 use Rattle.passign_c.proofs.codec.passign_read_public_key.Statement.{statement}
 use Rattle.passign_c.proofs.codec.passign_read_public_key.Tie as tie
 
-read-public-key-requires : tie.Need-read-public-key-requires
-read-public-key-requires c κs = search needs
-
-number-requires : tie.Need-number-requires
-number-requires c κs = search needs
-
-same-length : tie.Need-same-length
-same-length c = search needs
-
-same-length-2 : tie.Need-same-length-2
-same-length-2 c = search needs
-
 returns : tie.Need-returns
 returns c = let e = c .before .before .before .before .before .read-public-key .ensures in (c .number .ensures ∙ ap numberOf (e .0) ∙ numbered _, e .1)
 
 pub passign-read-public-key-spec : {M : Type 1} → statement M
-passign-read-public-key-spec =
-    tie.close (tie.spec read-public-key-requires number-requires same-length same-length-2 returns)
+passign-read-public-key-spec = tie.close (tie.spec (λ c κs. search needs) (λ c κs. search needs) (λ c. search needs) (λ c. search needs) returns)

@@ -7,18 +7,8 @@ use borrow.Author.Needs.{needs}
 use Rattle.passign_c.proofs.codec.passign_read_secret_key.Statement.{statement}
 use Rattle.passign_c.proofs.codec.passign_read_secret_key.Tie as tie
 
-read-secret-key-requires : tie.Need-read-secret-key-requires
-read-secret-key-requires c κs = search needs
-
-number-requires : tie.Need-number-requires
-number-requires c κs = search needs
-
-same-length : tie.Need-same-length
-same-length c = search needs
-
 returns : tie.Need-returns
 returns c = let e = c .before .before .read-secret-key .ensures in (c .number .ensures ∙ ap numberOf (e .0) ∙ numbered _, e .1)
 
 pub passign-read-secret-key-spec : {M : Type 1} → statement M
-passign-read-secret-key-spec =
-    tie.close (tie.spec read-secret-key-requires number-requires same-length returns)
+passign-read-secret-key-spec = tie.close (tie.spec (λ c κs. search needs) (λ c κs. search needs) (λ c. search needs) returns)

@@ -7,18 +7,8 @@ use borrow.Author.Needs.{needs}
 use Rattle.passign_c.proofs.codec.passign_write_secret_key.Statement.{statement}
 use Rattle.passign_c.proofs.codec.passign_write_secret_key.Tie as tie
 
-write-secret-key-requires : tie.Need-write-secret-key-requires
-write-secret-key-requires c κs = search needs
-
-number-requires : tie.Need-number-requires
-number-requires c κs = search needs
-
-same-length : tie.Need-same-length
-same-length c = search needs
-
 returns : tie.Need-returns
 returns c = let e = c .before .before .before .write-secret-key .ensures in (c .number .ensures ∙ ap numberOf (e .0) ∙ numbered _, e .1)
 
 pub passign-write-secret-key-spec : {M : Type 1} → statement M
-passign-write-secret-key-spec =
-    tie.close (tie.spec write-secret-key-requires number-requires same-length returns)
+passign-write-secret-key-spec = tie.close (tie.spec (λ c κs. search needs) (λ c κs. search needs) (λ c. search needs) returns)

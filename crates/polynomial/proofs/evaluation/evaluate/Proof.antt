@@ -7,9 +7,6 @@ use Rattle.polynomial.proofs.Table.{front-evaluable, front-below, front
 use Rattle.polynomial.proofs.evaluation.evaluate.Statement.{statement}
 use Rattle.polynomial.proofs.evaluation.evaluate.Tie as tie
 
-residues-of-requires : tie.Need-residues-of-requires
-residues-of-requires c κs = search needs
-
 array-share-prefix-residues : tie.Need-array-share-prefix-residues
 array-share-prefix-residues c = search needs
 
@@ -22,9 +19,6 @@ evaluations-of-requires c κs =
     let g = c .before .before .residues-of in
     (front-evaluable (s .pre .0) (g .result) (g .ensures), (front-below (s .pre .0) (g .result) (g .ensures), (s .pre .1 .0, s .pre .1 .1)))
 
-same-length : tie.Need-same-length
-same-length c = search needs
-
 returns : tie.Need-returns
 returns c =
     let s = c .before .before .before .before .before .before .before .before .before in
@@ -34,10 +28,4 @@ returns c =
 pub evaluate-spec : {M : Type 1} → statement M
 evaluate-spec =
     tie.close
-    (tie.spec
-    residues-of-requires
-    array-share-prefix-residues
-    slice-aggregate-evaluations-of
-    evaluations-of-requires
-    same-length
-    returns)
+    (tie.spec (λ c κs. search needs) array-share-prefix-residues slice-aggregate-evaluations-of evaluations-of-requires (λ c. search needs) returns)

@@ -7,9 +7,6 @@ use Rattle.polynomial.proofs.Table.{front-evaluable, front-below, front
 use Rattle.polynomial.proofs.evaluation.evaluate_at.Statement.{statement}
 use Rattle.polynomial.proofs.evaluation.evaluate_at.Tie as tie
 
-residues-of-requires : tie.Need-residues-of-requires
-residues-of-requires c κs = search needs
-
 array-share-prefix-residues : tie.Need-array-share-prefix-residues
 array-share-prefix-residues c = search needs
 
@@ -30,10 +27,4 @@ returns c =
 
 pub evaluate-at-spec : {M : Type 1} → statement M
 evaluate-at-spec =
-    tie.close
-    (tie.spec
-    residues-of-requires
-    array-share-prefix-residues
-    slice-aggregate-evaluation-of
-    evaluation-of-requires
-    returns)
+    tie.close (tie.spec (λ c κs. search needs) array-share-prefix-residues slice-aggregate-evaluation-of evaluation-of-requires returns)

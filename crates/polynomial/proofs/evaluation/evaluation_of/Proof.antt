@@ -50,9 +50,6 @@ turned-requires c κs =
 add-i : tie.Need-add-i Inv-loop μ-loop
 add-i c = record { fits = omega (arith, readable (c .before .before .before .before .before .before .before) .few) }
 
-loop-less : tie.Need-loop-less Inv-loop μ-loop
-loop-less c = search needs
-
 loop-again : tie.Need-loop-again Inv-loop μ-loop
 loop-again c =
     let s = c .before .before .before .before .before .before .before in
@@ -67,9 +64,6 @@ loop-again c =
       value = ap (λ (x : ℕ). pos (l .acc + x)) (c .before .product-at .ensures .0)
           ∙ sum-next n (s .args .powers .now) (s .args .residues .now) j (l .i) refl (l .inv .place) (l .inv .value);
     }
-
-wide-requires : tie.Need-wide-requires Inv-loop μ-loop
-wide-requires c κs = search needs
 
 rem-result : tie.Need-rem-result Inv-loop μ-loop
 rem-result c = omega (arith, c .wide .ensures .0, c .before .before .before .before .before .before .pre .0 .sound .modulus)
@@ -89,18 +83,5 @@ returns c =
 pub evaluation-of-spec : {M : Type 1} → statement M
 evaluation-of-spec =
     tie.close
-    (tie.spec
-    Inv-loop
-    μ-loop
-    summed-by-four-requires
-    loop-holds
-    product-at-requires
-    add-acc
-    turned-requires
-    add-i
-    loop-less
-    loop-again
-    wide-requires
-    rem-result
-    cast-result
-    returns)
+    (tie.spec Inv-loop μ-loop summed-by-four-requires loop-holds product-at-requires add-acc turned-requires add-i (λ c. search needs) loop-again
+    (λ c κs. search needs) rem-result cast-result returns)

@@ -22,12 +22,6 @@ abbrev μ-loop : tie.MeasureT-loop
 loop-holds : tie.Need-loop-holds Inv-loop μ-loop
 loop-holds c = (search needs, c .before .before .before .before .pre .1 .1 .1, refl)
 
-mul-evaluation-of : tie.Need-mul-evaluation-of Inv-loop μ-loop
-mul-evaluation-of c = search needs
-
-shared-slice-read-evaluation-of : tie.Need-shared-slice-read-evaluation-of Inv-loop μ-loop
-shared-slice-read-evaluation-of c = search needs
-
 cast-evaluation-of : tie.Need-cast-evaluation-of Inv-loop μ-loop
 cast-evaluation-of c = omega (arith, c .shared-slice-known4 .given (c .before .before .loop .i))
 
@@ -35,18 +29,6 @@ evaluation-of-requires : tie.Need-evaluation-of-requires Inv-loop μ-loop
 evaluation-of-requires c κs =
     let s = c .before .before .before .before .before .before .before in
     (s .pre .0, (s .pre .1 .0, s .pre .1 .1 .0 (c .before .before .loop .i) (search needs)))
-
-mul-out : tie.Need-mul-out Inv-loop μ-loop
-mul-out c = search needs
-
-slice-write-out : tie.Need-slice-write-out Inv-loop μ-loop
-slice-write-out c = search needs
-
-add-i : tie.Need-add-i Inv-loop μ-loop
-add-i c = search needs
-
-loop-less : tie.Need-loop-less Inv-loop μ-loop
-loop-less c = search needs
 
 loop-again : tie.Need-loop-again Inv-loop μ-loop
 loop-again c =
@@ -71,18 +53,5 @@ returns c =
 pub evaluations-of-spec : {M : Type 1} → statement M
 evaluations-of-spec =
     tie.close
-    (tie.spec
-    Inv-loop
-    μ-loop
-    loop-holds
-    mul-evaluation-of
-    shared-slice-read-evaluation-of
-    cast-evaluation-of
-    evaluation-of-requires
-    mul-out
-    slice-write-out
-    add-i
-    loop-less
-    loop-again
-    same-length
-    returns)
+    (tie.spec Inv-loop μ-loop loop-holds (λ c. search needs) (λ c. search needs) cast-evaluation-of evaluation-of-requires (λ c. search needs)
+    (λ c. search needs) (λ c. search needs) (λ c. search needs) loop-again same-length returns)

@@ -7,45 +7,6 @@ use Rattle.polynomial.specs.Evaluation.{productAt}
 use Rattle.polynomial.proofs.evaluation.four_products.Statement.{statement}
 use Rattle.polynomial.proofs.evaluation.four_products.Tie as tie
 
-turned-requires : tie.Need-turned-requires
-turned-requires c κs = search needs
-
-turned-requires-2 : tie.Need-turned-requires-2
-turned-requires-2 c κs = search needs
-
-turned-requires-3 : tie.Need-turned-requires-3
-turned-requires-3 c κs = search needs
-
-product-at-requires : tie.Need-product-at-requires
-product-at-requires c κs = search needs
-
-add-product-at : tie.Need-add-product-at
-add-product-at c = search needs
-
-product-at-requires-2 : tie.Need-product-at-requires-2
-product-at-requires-2 c κs = search needs
-
-add-product-at-2 : tie.Need-add-product-at-2
-add-product-at-2 c = search needs
-
-product-at-requires-3 : tie.Need-product-at-requires-3
-product-at-requires-3 c κs = search needs
-
-add-product-at-3 : tie.Need-add-product-at-3
-add-product-at-3 c = search needs
-
-product-at-requires-4 : tie.Need-product-at-requires-4
-product-at-requires-4 c κs = search needs
-
-add-result : tie.Need-add-result
-add-result c = search needs
-
-add-result-2 : tie.Need-add-result-2
-add-result-2 c = search needs
-
-add-result-3 : tie.Need-add-result-3
-add-result-3 c = search needs
-
 returns : tie.Need-returns
 returns c =
     let s = c .before .before .before .before .before .before .before .before .before in
@@ -60,18 +21,6 @@ returns c =
 pub four-products-spec : {M : Type 1} → statement M
 four-products-spec =
     tie.close
-    (tie.spec
-    turned-requires
-    turned-requires-2
-    turned-requires-3
-    product-at-requires
-    add-product-at
-    product-at-requires-2
-    add-product-at-2
-    product-at-requires-3
-    add-product-at-3
-    product-at-requires-4
-    add-result
-    add-result-2
-    add-result-3
+    (tie.spec (λ c κs. search needs) (λ c κs. search needs) (λ c κs. search needs) (λ c κs. search needs) (λ c. search needs) (λ c κs. search needs)
+    (λ c. search needs) (λ c κs. search needs) (λ c. search needs) (λ c κs. search needs) (λ c. search needs) (λ c. search needs) (λ c. search needs)
     returns)

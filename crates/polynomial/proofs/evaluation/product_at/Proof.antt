@@ -9,24 +9,6 @@ use Rattle.polynomial.specs.Evaluation.{productAt}
 use Rattle.polynomial.proofs.evaluation.product_at.Statement.{statement}
 use Rattle.polynomial.proofs.evaluation.product_at.Tie as tie
 
-mul-wide : tie.Need-mul-wide
-mul-wide c = search needs
-
-shared-slice-read-wide : tie.Need-shared-slice-read-wide
-shared-slice-read-wide c = search needs
-
-wide-requires : tie.Need-wide-requires
-wide-requires c κs = search needs
-
-mul-wide-2 : tie.Need-mul-wide-2
-mul-wide-2 c = search needs
-
-shared-slice-read-wide-2 : tie.Need-shared-slice-read-wide-2
-shared-slice-read-wide-2 c = search needs
-
-wide-requires-2 : tie.Need-wide-requires-2
-wide-requires-2 c κs = search needs
-
 product-small : (c : tie.After-wide2) → c .before .before .wide .result * c .wide2 .result < 2 ^ 52
 product-small c =
     let s = c .before .before .before .before .before .before in
@@ -44,12 +26,5 @@ returns c = (ap₂ (λ (x w : ℕ). x * w) (c .before .before .wide .ensures .0)
 pub product-at-spec : {M : Type 1} → statement M
 product-at-spec =
     tie.close
-    (tie.spec
-    mul-wide
-    shared-slice-read-wide
-    wide-requires
-    mul-wide-2
-    shared-slice-read-wide-2
-    wide-requires-2
-    mul-result
+    (tie.spec (λ c. search needs) (λ c. search needs) (λ c κs. search needs) (λ c. search needs) (λ c. search needs) (λ c κs. search needs) mul-result
     returns)

@@ -13,26 +13,17 @@ use Rattle.algebra.proofs.Signed.{negative, natural, complement-is, complement-
 use Rattle.polynomial.proofs.evaluation.residue_of.Statement.{statement}
 use Rattle.polynomial.proofs.evaluation.residue_of.Tie as tie
 
-sub-result : tie.Need-sub-result
-sub-result c = search needs
-
 sub-result-2 : tie.Need-sub-result-2
 sub-result-2 c = rw (complement-is (c .before .fits .a) (c .if1 .taken)) (record { sfits = c .before .fits .a .sfits })
 
 cast-result : tie.Need-cast-result
 cast-result c = rw (complement-read (c .before .fits .a) (c .if1 .taken)) (tt, omega (arith, c .before .fits .a .sfits))
 
-rem-result : tie.Need-rem-result
-rem-result c = search needs
-
 sub-result-3 : tie.Need-sub-result-3
 sub-result-3 c = mod-below-pred _ _ (c .before .pre)
 
 cast-result-2 : tie.Need-cast-result-2
 cast-result-2 c = rw (toZ-ofZ (c .before .fits .a), natural (c .before .fits .a) (c .if1 .left)) (tt, omega (arith, c .before .fits .a .sfits))
-
-rem-result-2 : tie.Need-rem-result-2
-rem-result-2 c = search needs
 
 returns : tie.Need-returns
 returns c =
@@ -50,13 +41,4 @@ returns-2 c =
 pub residue-of-spec : {M : Type 1} → statement M
 residue-of-spec =
     tie.close
-    (tie.spec
-    sub-result
-    sub-result-2
-    cast-result
-    rem-result
-    sub-result-3
-    cast-result-2
-    rem-result-2
-    returns
-    returns-2)
+    (tie.spec (λ c. search needs) sub-result-2 cast-result (λ c. search needs) sub-result-3 cast-result-2 (λ c. search needs) returns returns-2)

@@ -24,27 +24,6 @@ abbrev μ-loop : tie.MeasureT-loop
 loop-holds : tie.Need-loop-holds Inv-loop μ-loop
 loop-holds c = (search needs, search needs, refl)
 
-mul-residue-of : tie.Need-mul-residue-of Inv-loop μ-loop
-mul-residue-of c = search needs
-
-shared-slice-copy-out-residue-of : tie.Need-shared-slice-copy-out-residue-of Inv-loop μ-loop
-shared-slice-copy-out-residue-of c = search needs
-
-residue-of-requires : tie.Need-residue-of-requires Inv-loop μ-loop
-residue-of-requires c κs = search needs
-
-mul-out : tie.Need-mul-out Inv-loop μ-loop
-mul-out c = search needs
-
-array-write-out : tie.Need-array-write-out Inv-loop μ-loop
-array-write-out c = search needs
-
-add-i : tie.Need-add-i Inv-loop μ-loop
-add-i c = search needs
-
-loop-less : tie.Need-loop-less Inv-loop μ-loop
-loop-less c = search needs
-
 loop-again : tie.Need-loop-again Inv-loop μ-loop
 loop-again c =
     let s = c .before .before .before .before in
@@ -66,16 +45,5 @@ returns c =
 pub residues-of-spec : {M : Type 1} → statement M
 residues-of-spec =
     tie.close
-    (tie.spec
-    Inv-loop
-    μ-loop
-    loop-holds
-    mul-residue-of
-    shared-slice-copy-out-residue-of
-    residue-of-requires
-    mul-out
-    array-write-out
-    add-i
-    loop-less
-    loop-again
-    returns)
+    (tie.spec Inv-loop μ-loop loop-holds (λ c. search needs) (λ c. search needs) (λ c κs. search needs) (λ c. search needs) (λ c. search needs)
+    (λ c. search needs) (λ c. search needs) loop-again returns)

@@ -15,15 +15,6 @@ Inv-loop powers residues j n j2 j3 j4 acc₀ k₀ i₀ acc k i = Summed n powers
 abbrev μ-loop : tie.MeasureT-loop
 μ-loop powers residues j n j2 j3 j4 acc₀ k₀ i₀ acc k i = n - i
 
-turned-requires : tie.Need-turned-requires Inv-loop μ-loop
-turned-requires c κs = search needs
-
-turned-requires-2 : tie.Need-turned-requires-2 Inv-loop μ-loop
-turned-requires-2 c κs = search needs
-
-turned-requires-3 : tie.Need-turned-requires-3 Inv-loop μ-loop
-turned-requires-3 c κs = search needs
-
 loop-holds : tie.Need-loop-holds Inv-loop μ-loop
 loop-holds c =
     record {
@@ -33,24 +24,6 @@ loop-holds c =
       room = search needs;
       value = refl;
     }
-
-add-loop : tie.Need-add-loop Inv-loop μ-loop
-add-loop c = search needs
-
-four-products-requires : tie.Need-four-products-requires Inv-loop μ-loop
-four-products-requires c κs = search needs
-
-add-acc : tie.Need-add-acc Inv-loop μ-loop
-add-acc c = search needs
-
-turned-requires-4 : tie.Need-turned-requires-4 Inv-loop μ-loop
-turned-requires-4 c κs = search needs
-
-add-i : tie.Need-add-i Inv-loop μ-loop
-add-i c = search needs
-
-loop-less : tie.Need-loop-less Inv-loop μ-loop
-loop-less c = search needs
 
 loop-again : tie.Need-loop-again Inv-loop μ-loop
 loop-again c =
@@ -76,18 +49,5 @@ returns c = c .before .loop .inv
 pub summed-by-four-spec : {M : Type 1} → statement M
 summed-by-four-spec =
     tie.close
-    (tie.spec
-    Inv-loop
-    μ-loop
-    turned-requires
-    turned-requires-2
-    turned-requires-3
-    loop-holds
-    add-loop
-    four-products-requires
-    add-acc
-    turned-requires-4
-    add-i
-    loop-less
-    loop-again
-    returns)
+    (tie.spec Inv-loop μ-loop (λ c κs. search needs) (λ c κs. search needs) (λ c κs. search needs) loop-holds (λ c. search needs) (λ c κs. search needs)
+    (λ c. search needs) (λ c κs. search needs) (λ c. search needs) (λ c. search needs) loop-again returns)

@@ -8,12 +8,6 @@ use Rattle.algebra.proofs.Remainder.{round-none, round-once}
 use Rattle.polynomial.proofs.evaluation.turned.Statement.{statement}
 use Rattle.polynomial.proofs.evaluation.turned.Tie as tie
 
-sub-left : tie.Need-sub-left
-sub-left c = search needs
-
-add-result : tie.Need-add-result
-add-result c = search needs
-
 returns : tie.Need-returns
 returns c = (round-none _ (search needs), omega arith)
 
@@ -24,4 +18,4 @@ returns-2 c =
     (e ∙ round-once (a .k + a .j) (omega arith) (omega arith), omega arith)
 
 pub turned-spec : {M : Type 1} → statement M
-turned-spec = tie.close (tie.spec sub-left add-result returns returns-2)
+turned-spec = tie.close (tie.spec (λ c. search needs) (λ c. search needs) returns returns-2)

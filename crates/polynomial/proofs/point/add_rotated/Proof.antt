@@ -45,21 +45,6 @@ both-parts z f u v a i e h eu ev =
     (from-put z u i (omega arith) ∙ eu ∙ ap (λ (s : List ℤ). add s (scale a (take (length f - i) f))) (to-end i z))
     ∙ add-parts z f a i e h
 
-sub-cut : tie.Need-sub-cut
-sub-cut c = search needs
-
-mul-add-scaled : tie.Need-mul-add-scaled
-mul-add-scaled c = search needs
-
-sub-add-scaled : tie.Need-sub-add-scaled
-sub-add-scaled c = search needs
-
-part-add-scaled-start : tie.Need-part-add-scaled-start
-part-add-scaled-start c = search needs
-
-part-add-scaled-end : tie.Need-part-add-scaled-end
-part-add-scaled-end c = search needs
-
 slice-aggregate-add-scaled : tie.Need-slice-aggregate-add-scaled
 slice-aggregate-add-scaled c = sym (length-take-le _ (c .before .before .args .f .now) (omega arith))
 
@@ -75,26 +60,11 @@ add-scaled-requires c κs =
       rw (toZ-ofZ (s .fits .a)) (s .pre .4),
     )
 
-slice-relend-prefix-add-scaled : tie.Need-slice-relend-prefix-add-scaled
-slice-relend-prefix-add-scaled c = search needs
-
 slice-aggregate-add-scaled-2 : tie.Need-slice-aggregate-add-scaled-2
 slice-aggregate-add-scaled-2 c =
     let s = c .before .before .before .before .before in
     let h : s .args .i ≤ length (s .args .z .now) = omega arith in
     sym (ap length (before-put (s .args .z .now) (c .before .before .add-scaled .last .0) (s .args .i) h) ∙ length-take-le (s .args .i) (s .args .z .now) h)
-
-mul-add-scaled-2 : tie.Need-mul-add-scaled-2
-mul-add-scaled-2 c = search needs
-
-sub-add-scaled-2 : tie.Need-sub-add-scaled-2
-sub-add-scaled-2 c = search needs
-
-part-add-scaled-start-2 : tie.Need-part-add-scaled-start-2
-part-add-scaled-start-2 c = search needs
-
-part-add-scaled-end-2 : tie.Need-part-add-scaled-end-2
-part-add-scaled-end-2 c = search needs
 
 add-scaled-requires-2 : tie.Need-add-scaled-requires-2
 add-scaled-requires-2 c κs =
@@ -109,9 +79,6 @@ add-scaled-requires-2 c κs =
       rw (toZ-ofZ (s .fits .a)) (s .pre .4),
     )
 
-same-length : tie.Need-same-length
-same-length c = search needs
-
 returns : tie.Need-returns
 returns c =
     let s = c .before .before .before .before .before .before .before .before in
@@ -125,20 +92,6 @@ returns c =
 pub add-rotated-spec : {M : Type 1} → statement M
 add-rotated-spec =
     tie.close
-    (tie.spec
-    sub-cut
-    mul-add-scaled
-    sub-add-scaled
-    part-add-scaled-start
-    part-add-scaled-end
-    slice-aggregate-add-scaled
-    add-scaled-requires
-    slice-relend-prefix-add-scaled
-    slice-aggregate-add-scaled-2
-    mul-add-scaled-2
-    sub-add-scaled-2
-    part-add-scaled-start-2
-    part-add-scaled-end-2
-    add-scaled-requires-2
-    same-length
-    returns)
+    (tie.spec (λ c. search needs) (λ c. search needs) (λ c. search needs) (λ c. search needs) (λ c. search needs) slice-aggregate-add-scaled
+    add-scaled-requires (λ c. search needs) slice-aggregate-add-scaled-2 (λ c. search needs) (λ c. search needs) (λ c. search needs) (λ c. search needs)
+    add-scaled-requires-2 (λ c. search needs) returns)

@@ -26,18 +26,6 @@ abbrev μ-loop : tie.MeasureT-loop
 loop-holds : tie.Need-loop-holds Inv-loop μ-loop
 loop-holds c = (search needs, search needs, sym (add-nil (c .args .z .now)))
 
-mul-add-product : tie.Need-mul-add-product Inv-loop μ-loop
-mul-add-product c = search needs
-
-slice-copy-out-add-product : tie.Need-slice-copy-out-add-product Inv-loop μ-loop
-slice-copy-out-add-product c = search needs
-
-mul-add-product-2 : tie.Need-mul-add-product-2 Inv-loop μ-loop
-mul-add-product-2 c = search needs
-
-shared-slice-copy-out-add-product : tie.Need-shared-slice-copy-out-add-product Inv-loop μ-loop
-shared-slice-copy-out-add-product c = search needs
-
 add-product-requires : tie.Need-add-product-requires Inv-loop μ-loop
 add-product-requires c κs =
     let s = c .before .before .before .before in
@@ -49,18 +37,6 @@ add-product-requires c κs =
       rw (toZ-ofZ (s .fits .a)) (s .pre .3),
       rw (toZ-ofZ {w = w16} {z = getD f (l .i) (pos 0)} (record { sfits = c .add-product-arg2 .given })) (within-coefficient 1 f (l .i) (s .pre .2)),
     )
-
-mul-t13 : tie.Need-mul-t13 Inv-loop μ-loop
-mul-t13 c = search needs
-
-slice-set-from-z : tie.Need-slice-set-from-z Inv-loop μ-loop
-slice-set-from-z c = search needs
-
-add-i : tie.Need-add-i Inv-loop μ-loop
-add-i c = search needs
-
-loop-less : tie.Need-loop-less Inv-loop μ-loop
-loop-less c = search needs
 
 loop-again : tie.Need-loop-again Inv-loop μ-loop
 loop-again c =
@@ -80,9 +56,6 @@ loop-again c =
           ∙ added-next a z f (l .i) (omega arith) (omega arith),
     )
 
-same-length : tie.Need-same-length Inv-loop μ-loop
-same-length c = search needs
-
 returns : tie.Need-returns Inv-loop μ-loop
 returns c =
     let s = c .before .before in
@@ -93,19 +66,5 @@ returns c =
 pub add-scaled-spec : {M : Type 1} → statement M
 add-scaled-spec =
     tie.close
-    (tie.spec
-    Inv-loop
-    μ-loop
-    loop-holds
-    mul-add-product
-    slice-copy-out-add-product
-    mul-add-product-2
-    shared-slice-copy-out-add-product
-    add-product-requires
-    mul-t13
-    slice-set-from-z
-    add-i
-    loop-less
-    loop-again
-    same-length
-    returns)
+    (tie.spec Inv-loop μ-loop loop-holds (λ c. search needs) (λ c. search needs) (λ c. search needs) (λ c. search needs) add-product-requires
+    (λ c. search needs) (λ c. search needs) (λ c. search needs) (λ c. search needs) loop-again (λ c. search needs) returns)

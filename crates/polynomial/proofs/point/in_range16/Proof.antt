@@ -25,23 +25,8 @@ abbrev μ-loop : tie.MeasureT-loop
 loop-holds : tie.Need-loop-holds Inv-loop μ-loop
 loop-holds c = (search needs, refl)
 
-mul-is-within : tie.Need-mul-is-within Inv-loop μ-loop
-mul-is-within c = search needs
-
-shared-slice-copy-out-is-within : tie.Need-shared-slice-copy-out-is-within Inv-loop μ-loop
-shared-slice-copy-out-is-within c = search needs
-
 cast-is-within : tie.Need-cast-is-within Inv-loop μ-loop
 cast-is-within c = fits-wider w16 w32 tt (c .before .before .before .args .values .now) (c .before .before .loop .i) (c .is-within-arg .given)
-
-is-within-requires : tie.Need-is-within-requires Inv-loop μ-loop
-is-within-requires c κs = search needs
-
-add-i : tie.Need-add-i Inv-loop μ-loop
-add-i c = omega arith
-
-loop-less : tie.Need-loop-less Inv-loop μ-loop
-loop-less c = omega arith
 
 loop-again : tie.Need-loop-again Inv-loop μ-loop
 loop-again c =
@@ -62,15 +47,5 @@ returns c =
 pub in-range16-spec : {M : Type 1} → statement M
 in-range16-spec =
     tie.close
-    (tie.spec
-    Inv-loop
-    μ-loop
-    loop-holds
-    mul-is-within
-    shared-slice-copy-out-is-within
-    cast-is-within
-    is-within-requires
-    add-i
-    loop-less
-    loop-again
-    returns)
+    (tie.spec Inv-loop μ-loop loop-holds (λ c. search needs) (λ c. search needs) cast-is-within (λ c κs. search needs) (λ c. omega arith)
+    (λ c. omega arith) loop-again returns)

@@ -34,9 +34,6 @@ copy-wide-requires c κs = c .before .pre .0 .3 ∙ sym (c .before .pre .0 .2)
 loop-holds : tie.Need-loop-holds Inv-loop μ-loop
 loop-holds c = (search needs, c .before .copy-wide .ensures .0, c .before .copy-wide .ensures .1)
 
-shared-slice-copy-out-a : tie.Need-shared-slice-copy-out-a Inv-loop μ-loop
-shared-slice-copy-out-a c = search needs
-
 add-rotated-requires : tie.Need-add-rotated-requires Inv-loop μ-loop
 add-rotated-requires c κs =
     let s = c .before .before .before .before .before .before .before .before in
@@ -50,12 +47,6 @@ add-rotated-requires c κs =
       s .pre .1 .0,
       rw (toZ-ofZ {w = w8} {z = coefficient e (l .i)} (record { sfits = c .before .before .a .given })) (within-coefficient 1 e (l .i) (s .pre .1 .1)),
     )
-
-add-i : tie.Need-add-i Inv-loop μ-loop
-add-i c = search needs
-
-loop-less : tie.Need-loop-less Inv-loop μ-loop
-loop-less c = search needs
 
 loop-again : tie.Need-loop-again Inv-loop μ-loop
 loop-again c =
@@ -91,15 +82,5 @@ returns c =
 pub point-of-spec : {M : Type 1} → statement M
 point-of-spec =
     tie.close
-    (tie.spec
-    Inv-loop
-    μ-loop
-    copy-wide-requires
-    loop-holds
-    shared-slice-copy-out-a
-    add-rotated-requires
-    add-i
-    loop-less
-    loop-again
-    same-length
-    returns)
+    (tie.spec Inv-loop μ-loop copy-wide-requires loop-holds (λ c. search needs) add-rotated-requires (λ c. search needs) (λ c. search needs) loop-again
+    same-length returns)

@@ -11,21 +11,6 @@ use Rattle.session.proofs.RowCount.{next-inside}
 use Rattle.session.proofs.step.command_step.Statement.{statement}
 use Rattle.session.proofs.step.command_step.Tie as tie
 
-byte-at-requires : tie.Need-byte-at-requires
-byte-at-requires c κs = search needs
-
-next-ordinal-requires : tie.Need-next-ordinal-requires
-next-ordinal-requires c κs = search needs
-
-refusal-due-requires : tie.Need-refusal-due-requires
-refusal-due-requires c κs = search needs
-
-end-with-requires : tie.Need-end-with-requires
-end-with-requires c κs = search needs
-
-same-length : tie.Need-same-length
-same-length c = search needs
-
 returns : tie.Need-returns
 unfolding sessionOf
 returns c =
@@ -38,15 +23,6 @@ returns c =
 
 add-end-number : tie.Need-add-end-number
 add-end-number c = omega (arith, allowed _ _ _ (sym (c .before .before .refusal-due .ensures) ∙ c .before .if1 .left) .inside)
-
-end-number-requires : tie.Need-end-number-requires
-end-number-requires c κs = search needs
-
-end-with-requires-2 : tie.Need-end-with-requires-2
-end-with-requires-2 c κs = search needs
-
-same-length-2 : tie.Need-same-length-2
-same-length-2 c = search needs
 
 returns-2 : tie.Need-returns-2
 unfolding sessionOf
@@ -68,27 +44,11 @@ go-on-requires c κs =
     let inside = next-inside (s .args .s .rows) (s .args .s .place) (s .args .at) (s .pre .1 .1 .0) (s .pre .1 .1 .1) in
     (s .pre .0, (s .pre .1 .0, (due, (omega (arith, d .before .before .byte-at .ensures, c .before .if2 .left), (next, rw next inside)))))
 
-same-length-3 : tie.Need-same-length-3
-same-length-3 c = search needs
-
 returns-3 : tie.Need-returns-3
 returns-3 c = c .before .before .go-on .ensures
 
 pub command-step-spec : {M : Type 1} → statement M
 command-step-spec =
     tie.close
-    (tie.spec
-    byte-at-requires
-    next-ordinal-requires
-    refusal-due-requires
-    end-with-requires
-    same-length
-    returns
-    add-end-number
-    end-number-requires
-    end-with-requires-2
-    same-length-2
-    returns-2
-    go-on-requires
-    same-length-3
-    returns-3)
+    (tie.spec (λ c κs. search needs) (λ c κs. search needs) (λ c κs. search needs) (λ c κs. search needs) (λ c. search needs) returns add-end-number
+    (λ c κs. search needs) (λ c κs. search needs) (λ c. search needs) returns-2 go-on-requires (λ c. search needs) returns-3)

@@ -6,15 +6,9 @@ use Rattle.session.specs.Session.{sessionOf}
 use Rattle.session.proofs.step.end_with.Statement.{statement}
 use Rattle.session.proofs.step.end_with.Tie as tie
 
-write-plain-requires : tie.Need-write-plain-requires
-write-plain-requires c κs = search needs
-
-same-length : tie.Need-same-length
-same-length c = search needs
-
 returns : tie.Need-returns
 unfolding sessionOf
 returns c = record { session = refl; number = refl; row = c .before .before .write-plain .ensures }
 
 pub end-with-spec : {M : Type 1} → statement M
-end-with-spec = tie.close (tie.spec write-plain-requires same-length returns)
+end-with-spec = tie.close (tie.spec (λ c κs. search needs) (λ c. search needs) returns)

@@ -19,18 +19,9 @@ shared-slice-read-byte c = allowed _ _ _ (c .before .before .before .pre .1 .1 .
 add-start : tie.Need-add-start
 add-start c = omega (arith, allowed _ _ _ (c .before .before .before .pre .1 .1 .0) .inside)
 
-operand-size-requires : tie.Need-operand-size-requires
-operand-size-requires c κs = search needs
-
 add-end : tie.Need-add-end
 add-end c =
     omega (arith, c .operand-size .ensures .0, allowed _ _ _ (c .before .before .before .before .pre .1 .1 .0) .whole)
-
-sub-run : tie.Need-sub-run
-sub-run c = search needs
-
-part-run-start : tie.Need-part-run-start
-part-run-start c = search needs
 
 part-run-end : tie.Need-part-run-end
 part-run-end c =
@@ -43,9 +34,6 @@ run-requires c κs =
     let due = allowed _ _ _ (s .pre .1 .1 .0) in
     let size = c .before .run-arg .given .2 ∙ (add-sub-cancel-left (s .args .at + 1) (d .operand-size .result) ∙ d .operand-size .ensures .0) in
     ((s .pre .1 .1 .1 .0, due .known), (due .needs, (size, s .pre .0)))
-
-same-length : tie.Need-same-length
-same-length c = search needs
 
 returns : tie.Need-returns
 unfolding sessionOf
@@ -63,14 +51,5 @@ returns c =
 pub go-on-spec : {M : Type 1} → statement M
 go-on-spec =
     tie.close
-    (tie.spec
-    shared-slice-read-byte
-    add-start
-    operand-size-requires
-    add-end
-    sub-run
-    part-run-start
-    part-run-end
-    run-requires
-    same-length
-    returns)
+    (tie.spec shared-slice-read-byte add-start (λ c κs. search needs) add-end (λ c. search needs) (λ c. search needs) part-run-end run-requires
+    (λ c. search needs) returns)

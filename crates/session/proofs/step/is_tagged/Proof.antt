@@ -10,30 +10,6 @@ returns : tie.Need-returns
 unfolding isTagged
 returns c = rw (lt-leb 4 _ (c .if1 .taken))
 
-shared-slice-read-result : tie.Need-shared-slice-read-result
-shared-slice-read-result c = search needs
-
-element-copy-out-result : tie.Need-element-copy-out-result
-element-copy-out-result c = search needs
-
-shared-slice-read-result-2 : tie.Need-shared-slice-read-result-2
-shared-slice-read-result-2 c = search needs
-
-element-copy-out-result-2 : tie.Need-element-copy-out-result-2
-element-copy-out-result-2 c = search needs
-
-shared-slice-read-result-3 : tie.Need-shared-slice-read-result-3
-shared-slice-read-result-3 c = search needs
-
-element-copy-out-result-3 : tie.Need-element-copy-out-result-3
-element-copy-out-result-3 c = search needs
-
-shared-slice-read-result-4 : tie.Need-shared-slice-read-result-4
-shared-slice-read-result-4 c = search needs
-
-element-copy-out-result-4 : tie.Need-element-copy-out-result-4
-element-copy-out-result-4 c = search needs
-
 returns-2 : tie.Need-returns-2
 unfolding isTagged
 returns-2 c =
@@ -43,14 +19,5 @@ returns-2 c =
 pub is-tagged-spec : {M : Type 1} → statement M
 is-tagged-spec =
     tie.close
-    (tie.spec
-    returns
-    shared-slice-read-result
-    element-copy-out-result
-    shared-slice-read-result-2
-    element-copy-out-result-2
-    shared-slice-read-result-3
-    element-copy-out-result-3
-    shared-slice-read-result-4
-    element-copy-out-result-4
-    returns-2)
+    (tie.spec returns (λ c. search needs) (λ c. search needs) (λ c. search needs) (λ c. search needs) (λ c. search needs) (λ c. search needs)
+    (λ c. search needs) (λ c. search needs) returns-2)

@@ -6,9 +6,6 @@ use borrow.Author.Tests.{lt-ltb, le-ltb}
 use Rattle.session.proofs.step.next_ordinal.Statement.{statement}
 use Rattle.session.proofs.step.next_ordinal.Tie as tie
 
-add-result : tie.Need-add-result
-add-result c = search needs
-
 returns : tie.Need-returns
 returns c = rw (lt-ltb _ _ (c .if1 .taken))
 
@@ -19,4 +16,4 @@ returns-3 : tie.Need-returns-3
 returns-3 c = rw (le-ltb _ _ (c .before .if1 .left)) (omega arith)
 
 pub next-ordinal-spec : {M : Type 1} → statement M
-next-ordinal-spec = tie.close (tie.spec add-result returns returns-2 returns-3)
+next-ordinal-spec = tie.close (tie.spec (λ c. search needs) returns returns-2 returns-3)

@@ -40,9 +40,6 @@ returns : tie.Need-returns
 unfolding refusalDue
 returns c = rw (le-leb _ _ (c .if1 .taken))
 
-shared-slice-read-byte : tie.Need-shared-slice-read-byte
-shared-slice-read-byte c = search needs
-
 returns-2 : tie.Need-returns-2
 unfolding refusalDue
 returns-2 c = rw (lt-leb _ _ (c .before .before .if1 .left), le-ltb _ 9 (c .if2 .taken))
@@ -51,15 +48,6 @@ returns-3 : tie.Need-returns-3
 returns-3 c =
     let a = c .before .before .before .before .before .args in
     rw (behind (a .file .now) (a .at) (a .set) (c .before .before .before .if1 .left) (c .before .if2 .left), c .if3 .taken)
-
-sub-if4 : tie.Need-sub-if4
-sub-if4 c = search needs
-
-sub-if4-2 : tie.Need-sub-if4-2
-sub-if4-2 c = search needs
-
-operand-size-requires : tie.Need-operand-size-requires
-operand-size-requires c κs = search needs
 
 returns-4 : tie.Need-returns-4
 returns-4 c =
@@ -78,13 +66,4 @@ returns-5 c =
 pub refusal-due-spec : {M : Type 1} → statement M
 refusal-due-spec =
     tie.close
-    (tie.spec
-    returns
-    shared-slice-read-byte
-    returns-2
-    returns-3
-    sub-if4
-    sub-if4-2
-    operand-size-requires
-    returns-4
-    returns-5)
+    (tie.spec returns (λ c. search needs) returns-2 returns-3 (λ c. search needs) (λ c. search needs) (λ c κs. search needs) returns-4 returns-5)

@@ -37,9 +37,6 @@ command-step-requires c κs =
     let s = c .before .before .before .before .before in
     (s .pre .0, (s .pre .1, (c .before .if1 .taken, omega arith)))
 
-same-length : tie.Need-same-length
-same-length c = search needs
-
 returns : tie.Need-returns
 unfolding sessionOf
 returns c =
@@ -47,27 +44,12 @@ returns c =
     let a = b .before .before .before .before .args in
     rw (later (sessionOf (a .s)) (a .file .now) (b .if1 .taken)) (c .before .before .command-step .ensures)
 
-end-with-requires : tie.Need-end-with-requires
-end-with-requires c κs = search needs
-
-same-length-2 : tie.Need-same-length-2
-same-length-2 c = search needs
-
 returns-2 : tie.Need-returns-2
 unfolding sessionOf
 returns-2 c =
     let b = c .before .before .before .before in
     let a = b .before .before .before .before .before .args in
     rw (long (sessionOf (a .s)) (a .file .now) (b .before .if1 .left) (b .if2 .taken)) (c .before .before .end-with .ensures)
-
-is-tagged-requires : tie.Need-is-tagged-requires
-is-tagged-requires c κs = search needs
-
-end-with-requires-2 : tie.Need-end-with-requires-2
-end-with-requires-2 c κs = search needs
-
-same-length-3 : tie.Need-same-length-3
-same-length-3 c = search needs
 
 returns-3 : tie.Need-returns-3
 unfolding sessionOf
@@ -84,9 +66,6 @@ command-step-requires-2 c κs =
     let s = first .before .before .before .before in
     (s .pre .0, (s .pre .1, (omega arith, omega (arith, first .if1 .left))))
 
-same-length-4 : tie.Need-same-length-4
-same-length-4 c = search needs
-
 returns-4 : tie.Need-returns-4
 unfolding sessionOf
 returns-4 c =
@@ -99,17 +78,5 @@ returns-4 c =
 pub step-spec : {M : Type 1} → statement M
 step-spec =
     tie.close
-    (tie.spec
-    command-step-requires
-    same-length
-    returns
-    end-with-requires
-    same-length-2
-    returns-2
-    is-tagged-requires
-    end-with-requires-2
-    same-length-3
-    returns-3
-    command-step-requires-2
-    same-length-4
-    returns-4)
+    (tie.spec command-step-requires (λ c. search needs) returns (λ c κs. search needs) (λ c. search needs) returns-2 (λ c κs. search needs)
+    (λ c κs. search needs) (λ c. search needs) returns-3 command-step-requires-2 (λ c. search needs) returns-4)

@@ -40,13 +40,4 @@ returns-4 c =
 
 pub load-spec : {M : Type 1} → statement M
 load-spec =
-    tie.close
-    (tie.spec
-    load-points-requires
-    returns
-    load-mask-requires
-    returns-2
-    load-message-requires
-    returns-3
-    load-evaluations-requires
-    returns-4)
+    tie.close (tie.spec load-points-requires returns load-mask-requires returns-2 load-message-requires returns-3 load-evaluations-requires returns-4)

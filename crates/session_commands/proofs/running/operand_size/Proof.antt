@@ -21,9 +21,6 @@ one-byte (some c) byte e = rw e
 returns : tie.Need-returns
 returns c = (one-byte (setHeld (c .before .args .set)) (c .before .args .byte) (c .if1 .taken), omega arith)
 
-params-of-requires : tie.Need-params-of-requires
-params-of-requires c κs = search needs
-
 size-in-requires : tie.Need-size-in-requires
 size-in-requires c κs = rw (c .params-of .ensures) (set-fitting (c .before .before .before .args .set) (c .before .if2 .taken))
 
@@ -39,5 +36,4 @@ returns-3 c =
     (rw (le-ltb (s .args .set) 5 (c .if2 .left), ne-eqb (s .args .byte) 1 (c .before .if1 .left)), omega arith)
 
 pub operand-size-spec : {M : Type 1} → statement M
-operand-size-spec =
-    tie.close (tie.spec returns params-of-requires size-in-requires returns-2 returns-3)
+operand-size-spec = tie.close (tie.spec returns (λ c κs. search needs) size-in-requires returns-2 returns-3)

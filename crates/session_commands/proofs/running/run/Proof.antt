@@ -17,12 +17,6 @@ choose-set-requires : tie.Need-choose-set-requires
 choose-set-requires c κs =
     let s = c .before .before .before in s .pre .1 .1 .0 ∙ operand-size-one (setHeld (s .args .h .set)) (c .if1 .taken)
 
-write-plain-requires : tie.Need-write-plain-requires
-write-plain-requires c κs = search needs
-
-same-length : tie.Need-same-length
-same-length c = search needs
-
 returns : tie.Need-returns
 returns c =
     let at = c .before .before in
@@ -43,9 +37,6 @@ run-in-requires c κs =
       ((omega arith, s .pre .0 .1), (rw (c .before .params-of .ensures) size, s .pre .1 .1 .1)),
     )
 
-same-length-2 : tie.Need-same-length-2
-same-length-2 c = search needs
-
 returns-2 : tie.Need-returns-2
 returns-2 c =
     let run = c .before .before in
@@ -57,12 +48,4 @@ returns-2 c =
 pub run-spec : {M : Type 1} → statement M
 run-spec =
     tie.close
-    (tie.spec
-    choose-set-requires
-    write-plain-requires
-    same-length
-    returns
-    params-of-requires
-    run-in-requires
-    same-length-2
-    returns-2)
+    (tie.spec choose-set-requires (λ c κs. search needs) (λ c. search needs) returns params-of-requires run-in-requires (λ c. search needs) returns-2)

@@ -16,17 +16,11 @@ load-key-requires c κs =
     let s = c .before .before .before .before in
     (s .pre .0, (rw (c .before .if1 .taken) at (s .pre .1 .1 .0), s .pre .1 .1 .1))
 
-same-length : tie.Need-same-length
-same-length c = search needs
-
 returns : tie.Need-returns
 returns c = let at = c .before .before in rw (at .before .before .if1 .taken) (at .load-key .ensures)
 
 sign-held-requires : tie.Need-sign-held-requires
 sign-held-requires c κs = let s = c .before .before .before .before .before in (s .pre .0, s .pre .1 .1 .1)
-
-same-length-2 : tie.Need-same-length-2
-same-length-2 c = search needs
 
 returns-2 : tie.Need-returns-2
 returns-2 c = let at = c .before .before in rw (at .before .before .if2 .taken) (at .sign-held .ensures)
@@ -35,9 +29,6 @@ check-held-requires : tie.Need-check-held-requires
 check-held-requires c κs =
     let s = c .before .before .before .before .before .before in
     (fitting s, (rw (c .before .if3 .taken) at (s .pre .1 .1 .0), s .pre .1 .1 .1))
-
-same-length-3 : tie.Need-same-length-3
-same-length-3 c = search needs
 
 returns-3 : tie.Need-returns-3
 returns-3 c = let at = c .before .before in rw (at .before .before .if3 .taken) (at .check-held .ensures)
@@ -49,12 +40,6 @@ load-requires c κs =
     record { above = s .pre .1 .0 .0; below = s .pre .1 .0 .1; not-key = c .before .before .if1 .left; not-signing = c .before .if2 .left; not-check = c .if3 .left } in
     (fitting s, (loading, s .pre .1 .1 .0))
 
-write-plain-requires : tie.Need-write-plain-requires
-write-plain-requires c κs = search needs
-
-same-length-4 : tie.Need-same-length-4
-same-length-4 c = search needs
-
 returns-4 : tie.Need-returns-4
 returns-4 c =
     let at = c .before .before in
@@ -64,17 +49,5 @@ returns-4 c =
 pub run-in-spec : {M : Type 1} → statement M
 run-in-spec =
     tie.close
-    (tie.spec
-    load-key-requires
-    same-length
-    returns
-    sign-held-requires
-    same-length-2
-    returns-2
-    check-held-requires
-    same-length-3
-    returns-3
-    load-requires
-    write-plain-requires
-    same-length-4
-    returns-4)
+    (tie.spec load-key-requires (λ c. search needs) returns sign-held-requires (λ c. search needs) returns-2 check-held-requires (λ c. search needs)
+    returns-3 load-requires (λ c κs. search needs) (λ c. search needs) returns-4)

@@ -7,24 +7,6 @@ use borrow.Author.Tests.{ne-eqb}
 use Rattle.session_commands.proofs.running.size_in.Statement.{statement}
 use Rattle.session_commands.proofs.running.size_in.Tie as tie
 
-mul-result : tie.Need-mul-result
-mul-result c = search needs
-
-mul-result-2 : tie.Need-mul-result-2
-mul-result-2 c = search needs
-
-mul-result-3 : tie.Need-mul-result-3
-mul-result-3 c = search needs
-
-mul-result-4 : tie.Need-mul-result-4
-mul-result-4 c = search needs
-
-add-result : tie.Need-add-result
-add-result c = search needs
-
-mul-result-5 : tie.Need-mul-result-5
-mul-result-5 c = search needs
-
 returns : tie.Need-returns
 returns c = (rw (c .before .match .keys1) refl, omega (arith, c .before .before .pre .size, c .before .before .pre .points))
 
@@ -54,17 +36,5 @@ returns-7 c =
 pub size-in-spec : {M : Type 1} → statement M
 size-in-spec =
     tie.close
-    (tie.spec
-    mul-result
-    mul-result-2
-    mul-result-3
-    mul-result-4
-    add-result
-    mul-result-5
-    returns
-    returns-2
-    returns-3
-    returns-4
-    returns-5
-    returns-6
-    returns-7)
+    (tie.spec (λ c. search needs) (λ c. search needs) (λ c. search needs) (λ c. search needs) (λ c. search needs) (λ c. search needs) returns returns-2
+    returns-3 returns-4 returns-5 returns-6 returns-7)

@@ -62,9 +62,6 @@ array-borrow-prefix-values c = points-room (fitting (c .before .before .before .
 slice-aggregate-evaluate-2 : tie.Need-slice-aggregate-evaluate-2
 slice-aggregate-evaluate-2 c = points-lent (fitting (c .before .before .before .before .before .before .before))
 
-evaluate-requires : tie.Need-evaluate-requires
-evaluate-requires c κs = search needs
-
 returns : tie.Need-returns
 unfolding evaluations
 returns c =
@@ -80,13 +77,5 @@ returns c =
 pub evaluations-of-spec : {M : Type 1} → statement M
 evaluations-of-spec =
     tie.close
-    (tie.spec
-    array-borrow-prefix-f
-    slice-aggregate-read-key
-    read-key-requires
-    array-share-prefix-f
-    slice-aggregate-evaluate
-    array-borrow-prefix-values
-    slice-aggregate-evaluate-2
-    evaluate-requires
-    returns)
+    (tie.spec array-borrow-prefix-f slice-aggregate-read-key read-key-requires array-share-prefix-f slice-aggregate-evaluate array-borrow-prefix-values
+    slice-aggregate-evaluate-2 (λ c κs. search needs) returns)

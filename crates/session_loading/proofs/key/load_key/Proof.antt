@@ -35,12 +35,6 @@ fitting c = lookup-fitting (c .args .h .set) (c .pre .0 .0) (c .pre .0 .1)
 has-points-requires : tie.Need-has-points-requires
 has-points-requires c κs = fitting (c .before .before .before)
 
-write-plain-requires : tie.Need-write-plain-requires
-write-plain-requires c κs = search needs
-
-same-length : tie.Need-same-length
-same-length c = search needs
-
 returns : tie.Need-returns
 unfolding loadKey heldIn
 returns c =
@@ -50,15 +44,6 @@ returns c =
 -- points are held
 with-points : (c : tie.Else1) → let a = c .before .before .before .before .before .args in hasPoints (a .p) (a .h .points) ≡ true
 with-points c = sym (c .before .has-points .ensures) ∙ not-false _ (c .if1 .left)
-
-are-key-bytes-requires : tie.Need-are-key-bytes-requires
-are-key-bytes-requires c κs = search needs
-
-write-plain-requires-2 : tie.Need-write-plain-requires-2
-write-plain-requires-2 c κs = search needs
-
-same-length-2 : tie.Need-same-length-2
-same-length-2 c = search needs
 
 returns-2 : tie.Need-returns-2
 unfolding loadKey heldIn
@@ -92,9 +77,6 @@ write-values-requires c κs =
     let s = c .before .before .before .before .before .before .before .before .before .before .before .before in
     (s .pre .1 .1, omega (arith, slice-aggregate-write-values c, points-room (fitting s)))
 
-same-length-3 : tie.Need-same-length-3
-same-length-3 c = search needs
-
 returns-3 : tie.Need-returns-3
 returns-3 c =
     let w = c .before .before .before .before .before .before .before in
@@ -113,18 +95,5 @@ returns-3 c =
 pub load-key-spec : {M : Type 1} → statement M
 load-key-spec =
     tie.close
-    (tie.spec
-    has-points-requires
-    write-plain-requires
-    same-length
-    returns
-    are-key-bytes-requires
-    write-plain-requires-2
-    same-length-2
-    returns-2
-    with-key-requires
-    array-share-prefix-list
-    slice-aggregate-write-values
-    write-values-requires
-    same-length-3
-    returns-3)
+    (tie.spec has-points-requires (λ c κs. search needs) (λ c. search needs) returns (λ c κs. search needs) (λ c κs. search needs) (λ c. search needs)
+    returns-2 with-key-requires array-share-prefix-list slice-aggregate-write-values write-values-requires (λ c. search needs) returns-3)

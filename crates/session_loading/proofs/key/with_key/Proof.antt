@@ -64,11 +64,5 @@ returns c =
 pub with-key-spec : {M : Type 1} → statement M
 with-key-spec =
     tie.close
-    (tie.spec
-    array-share-prefix-list
-    slice-aggregate-evaluations-of
-    evaluations-of-requires
-    array-borrow-prefix-bytes
-    slice-aggregate-copy
-    copy-requires
+    (tie.spec array-share-prefix-list slice-aggregate-evaluations-of evaluations-of-requires array-borrow-prefix-bytes slice-aggregate-copy copy-requires
     returns)

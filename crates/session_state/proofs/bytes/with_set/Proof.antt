@@ -10,24 +10,6 @@ use borrow.Author.Needs.{needs}
 use Rattle.session_state.proofs.bytes.with_set.Statement.{statement}
 use Rattle.session_state.proofs.bytes.with_set.Tie as tie
 
-add-end : tie.Need-add-end
-add-end c = search needs
-
-array-write-out : tie.Need-array-write-out
-array-write-out c = search needs
-
-sub-copy : tie.Need-sub-copy
-sub-copy c = search needs
-
-part-out-start : tie.Need-part-out-start
-part-out-start c = search needs
-
-part-out-end : tie.Need-part-out-end
-part-out-end c = search needs
-
-copy-requires : tie.Need-copy-requires
-copy-requires c κs = search needs
-
 returns : tie.Need-returns
 returns c =
     let a = c .before .before .before .before .args in
@@ -36,4 +18,6 @@ returns c =
     ∙ ap (λ (l : List ℕ). a .set ∷ l) (w .ensures)
 
 pub with-set-spec : {M : Type 1} → statement M
-with-set-spec = tie.close (tie.spec add-end array-write-out sub-copy part-out-start part-out-end copy-requires returns)
+with-set-spec =
+    tie.close
+    (tie.spec (λ c. search needs) (λ c. search needs) (λ c. search needs) (λ c. search needs) (λ c. search needs) (λ c κs. search needs) returns)

@@ -24,23 +24,11 @@ add-end c = omega (arith, room (c .args .masks .count + 1) (c .args .n) (omega a
 mul-numbers : tie.Need-mul-numbers
 mul-numbers c = omega (arith, room (c .before .args .masks .count + 1) (c .before .args .n) (omega arith) (c .before .pre .0))
 
-sub-copy : tie.Need-sub-copy
-sub-copy c = search needs
-
-part-numbers-start : tie.Need-part-numbers-start
-part-numbers-start c = search needs
-
 part-numbers-end : tie.Need-part-numbers-end
 part-numbers-end c =
     let s = c .before in
     let size : length (s .args .masks .numbers) ≡ 9224 = search needs in
     omega (arith, room (s .args .masks .count + 1) (s .args .n) (omega arith) (s .pre .0))
-
-copy-requires : tie.Need-copy-requires
-copy-requires c κs = search needs
-
-add-t9 : tie.Need-add-t9
-add-t9 c = search needs
 
 -- stored from the end of the others on
 one-more : (n : ℕ) (masks : Masks) (ys mask : List ℤ) → n ≤ 1153 → masks .count < 8 → length (masks .numbers) ≡ 9224 → length mask ≡ n → ys ≡ mask
@@ -58,13 +46,4 @@ returns c =
 pub with-mask-spec : {M : Type 1} → statement M
 with-mask-spec =
     tie.close
-    (tie.spec
-    mul-start
-    add-end
-    mul-numbers
-    sub-copy
-    part-numbers-start
-    part-numbers-end
-    copy-requires
-    add-t9
-    returns)
+    (tie.spec mul-start add-end mul-numbers (λ c. search needs) (λ c. search needs) part-numbers-end (λ c κs. search needs) (λ c. search needs) returns)

@@ -16,12 +16,6 @@ use Rattle.session_state.proofs.MaskList.{few, room}
 use Rattle.session_state.proofs.mask_list.without_masks.Statement.{statement}
 use Rattle.session_state.proofs.mask_list.without_masks.Tie as tie
 
-at-most-eight-requires : tie.Need-at-most-eight-requires
-at-most-eight-requires c κs = search needs
-
-no-masks-requires : tie.Need-no-masks-requires
-no-masks-requires c κs = search needs
-
 returns : tie.Need-returns
 returns c =
     let s = c .before .before .before in
@@ -70,9 +64,6 @@ copy-requires c κs =
     let end = part-copy-end (c .before .before) in
     sym (slice-aggregate-copy c) ∙ sym (length-take-le _ (drop start (s .args .masks .numbers)) (omega (arith, length-drop start (s .args .masks .numbers))))
 
-sub-t13 : tie.Need-sub-t13
-sub-t13 c = search needs
-
 -- those that are left, in front of any list
 left : (n used count : ℕ) (masks : Masks) (front behind : List ℤ) → n ≤ 1153 → count ≡ atMostEight (masks .count) → count ≤ 8 → used ≤ count
     → length (masks .numbers) ≡ 9224 → front ≡ take (count * n - used * n) (drop (used * n) (masks .numbers))
@@ -91,19 +82,5 @@ returns-2 c =
 pub without-masks-spec : {M : Type 1} → statement M
 without-masks-spec =
     tie.close
-    (tie.spec
-    at-most-eight-requires
-    no-masks-requires
-    returns
-    mul-start
-    mul-end
-    sub-left
-    mul-copy
-    sub-copy
-    part-copy-start
-    part-copy-end
-    array-borrow-prefix-numbers
-    slice-aggregate-copy
-    copy-requires
-    sub-t13
-    returns-2)
+    (tie.spec (λ c κs. search needs) (λ c κs. search needs) returns mul-start mul-end sub-left mul-copy sub-copy part-copy-start part-copy-end
+    array-borrow-prefix-numbers slice-aggregate-copy copy-requires (λ c. search needs) returns-2)

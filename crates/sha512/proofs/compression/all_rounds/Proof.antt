@@ -21,27 +21,6 @@ loop-holds : tie.Need-loop-holds Inv-loop μ-loop
 unfolding rounds
 loop-holds c = (search needs, refl)
 
-mul-one-round : tie.Need-mul-one-round Inv-loop μ-loop
-mul-one-round c = search needs
-
-element-copy-out-one-round : tie.Need-element-copy-out-one-round Inv-loop μ-loop
-element-copy-out-one-round c = search needs
-
-mul-one-round-2 : tie.Need-mul-one-round-2 Inv-loop μ-loop
-mul-one-round-2 c = search needs
-
-array-read-one-round : tie.Need-array-read-one-round Inv-loop μ-loop
-array-read-one-round c = search needs
-
-one-round-requires : tie.Need-one-round-requires Inv-loop μ-loop
-one-round-requires c κs = search needs
-
-add-t : tie.Need-add-t Inv-loop μ-loop
-add-t c = search needs
-
-loop-less : tie.Need-loop-less Inv-loop μ-loop
-loop-less c = search needs
-
 loop-again : tie.Need-loop-again Inv-loop μ-loop
 loop-again c = let l = c .before .before .before .loop in
     let k = ap (λ (x : List ℕ). getD x (l .t) 0) (c .before .before .before .before .pre) in
@@ -53,16 +32,5 @@ returns c = let e : c .before .loop .t ≡ 80 = omega arith in rw e at (c .befor
 pub all-rounds-spec : {M : Type 1} → statement M
 all-rounds-spec =
     tie.close
-    (tie.spec
-    Inv-loop
-    μ-loop
-    loop-holds
-    mul-one-round
-    element-copy-out-one-round
-    mul-one-round-2
-    array-read-one-round
-    one-round-requires
-    add-t
-    loop-less
-    loop-again
-    returns)
+    (tie.spec Inv-loop μ-loop loop-holds (λ c. search needs) (λ c. search needs) (λ c. search needs) (λ c. search needs) (λ c κs. search needs)
+    (λ c. search needs) (λ c. search needs) loop-again returns)

@@ -6,20 +6,10 @@ use borrow.Author.Needs.{needs}
 use Rattle.sha512.proofs.compression.compressed_with.Statement.{statement}
 use Rattle.sha512.proofs.compression.compressed_with.Tie as tie
 
-message-schedule-requires : tie.Need-message-schedule-requires
-message-schedule-requires c κs = search needs
-
-all-rounds-requires : tie.Need-all-rounds-requires
-all-rounds-requires c κs = search needs
-
-word-sums-requires : tie.Need-word-sums-requires
-word-sums-requires c κs = search needs
-
 returns : tie.Need-returns
 unfolding compress
 returns c = let h = c .before .before .before .before .args .h in
     c .word-sums .ensures ∙ ap (λ s. sums 8 s h) (c .before .all-rounds .ensures ∙ ap (λ w. rounds 80 w h) (c .before .before .message-schedule .ensures))
 
 pub compressed-with-spec : {M : Type 1} → statement M
-compressed-with-spec =
-    tie.close (tie.spec message-schedule-requires all-rounds-requires word-sums-requires returns)
+compressed-with-spec = tie.close (tie.spec (λ c κs. search needs) (λ c κs. search needs) (λ c κs. search needs) returns)

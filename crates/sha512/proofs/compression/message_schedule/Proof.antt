@@ -6,15 +6,9 @@ use borrow.Author.Needs.{needs}
 use Rattle.sha512.proofs.compression.message_schedule.Statement.{statement}
 use Rattle.sha512.proofs.compression.message_schedule.Tie as tie
 
-loaded-requires : tie.Need-loaded-requires
-loaded-requires c κs = search needs
-
-expanded-requires : tie.Need-expanded-requires
-expanded-requires c κs = search needs
-
 returns : tie.Need-returns
 unfolding schedule
 returns c = c .expanded .ensures ∙ ap (expand 64) (c .before .loaded .ensures)
 
 pub message-schedule-spec : {M : Type 1} → statement M
-message-schedule-spec = tie.close (tie.spec loaded-requires expanded-requires returns)
+message-schedule-spec = tie.close (tie.spec (λ c κs. search needs) (λ c κs. search needs) returns)

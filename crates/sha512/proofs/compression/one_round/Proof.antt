@@ -9,39 +9,6 @@ use borrow.Author.Needs.{needs}
 use Rattle.sha512.proofs.compression.one_round.Statement.{statement}
 use Rattle.sha512.proofs.compression.one_round.Tie as tie
 
-t1-requires : tie.Need-t1-requires
-t1-requires c κs = search needs
-
-t2-requires : tie.Need-t2-requires
-t2-requires c κs = search needs
-
-wrapping-add-u64-requires : tie.Need-wrapping-add-u64-requires
-wrapping-add-u64-requires c κs = search needs
-
-array-read-wrapping-add-u64 : tie.Need-array-read-wrapping-add-u64
-array-read-wrapping-add-u64 c = search needs
-
-wrapping-add-u64-requires-2 : tie.Need-wrapping-add-u64-requires-2
-wrapping-add-u64-requires-2 c κs = search needs
-
-array-read-t9 : tie.Need-array-read-t9
-array-read-t9 c = search needs
-
-array-read-t16 : tie.Need-array-read-t16
-array-read-t16 c = search needs
-
-array-read-t19 : tie.Need-array-read-t19
-array-read-t19 c = search needs
-
-array-read-t22 : tie.Need-array-read-t22
-array-read-t22 c = search needs
-
-array-read-t25 : tie.Need-array-read-t25
-array-read-t25 c = search needs
-
-array-read-t28 : tie.Need-array-read-t28
-array-read-t28 c = search needs
-
 returns : tie.Need-returns
 unfolding round add
 returns c = let x = c .before in
@@ -53,16 +20,5 @@ returns c = let x = c .before in
 pub one-round-spec : {M : Type 1} → statement M
 one-round-spec =
     tie.close
-    (tie.spec
-    t1-requires
-    t2-requires
-    wrapping-add-u64-requires
-    array-read-wrapping-add-u64
-    wrapping-add-u64-requires-2
-    array-read-t9
-    array-read-t16
-    array-read-t19
-    array-read-t22
-    array-read-t25
-    array-read-t28
-    returns)
+    (tie.spec (λ c κs. search needs) (λ c κs. search needs) (λ c κs. search needs) (λ c. search needs) (λ c κs. search needs) (λ c. search needs)
+    (λ c. search needs) (λ c. search needs) (λ c. search needs) (λ c. search needs) (λ c. search needs) returns)

@@ -23,33 +23,6 @@ loop-holds : tie.Need-loop-holds Inv-loop μ-loop
 unfolding sums
 loop-holds c = (search needs, search needs, refl)
 
-mul-wrapping-add-u64 : tie.Need-mul-wrapping-add-u64 Inv-loop μ-loop
-mul-wrapping-add-u64 c = search needs
-
-array-read-wrapping-add-u64 : tie.Need-array-read-wrapping-add-u64 Inv-loop μ-loop
-array-read-wrapping-add-u64 c = search needs
-
-mul-wrapping-add-u64-2 : tie.Need-mul-wrapping-add-u64-2 Inv-loop μ-loop
-mul-wrapping-add-u64-2 c = search needs
-
-array-read-wrapping-add-u64-2 : tie.Need-array-read-wrapping-add-u64-2 Inv-loop μ-loop
-array-read-wrapping-add-u64-2 c = search needs
-
-wrapping-add-u64-requires : tie.Need-wrapping-add-u64-requires Inv-loop μ-loop
-wrapping-add-u64-requires c κs = search needs
-
-mul-r : tie.Need-mul-r Inv-loop μ-loop
-mul-r c = search needs
-
-array-write-r : tie.Need-array-write-r Inv-loop μ-loop
-array-write-r c = search needs
-
-add-i : tie.Need-add-i Inv-loop μ-loop
-add-i c = search needs
-
-loop-less : tie.Need-loop-less Inv-loop μ-loop
-loop-less c = search needs
-
 loop-again : tie.Need-loop-again Inv-loop μ-loop
 unfolding add
 loop-again c = let l = c .before .before .loop in
@@ -63,18 +36,5 @@ returns c = let l = c .before .loop in
 pub word-sums-spec : {M : Type 1} → statement M
 word-sums-spec =
     tie.close
-    (tie.spec
-    Inv-loop
-    μ-loop
-    loop-holds
-    mul-wrapping-add-u64
-    array-read-wrapping-add-u64
-    mul-wrapping-add-u64-2
-    array-read-wrapping-add-u64-2
-    wrapping-add-u64-requires
-    mul-r
-    array-write-r
-    add-i
-    loop-less
-    loop-again
-    returns)
+    (tie.spec Inv-loop μ-loop loop-holds (λ c. search needs) (λ c. search needs) (λ c. search needs) (λ c. search needs) (λ c κs. search needs)
+    (λ c. search needs) (λ c. search needs) (λ c. search needs) (λ c. search needs) loop-again returns)

@@ -11,24 +11,6 @@ use borrow.Author.Needs.{needs}
 use Rattle.sha512.proofs.message.after_end.Statement.{statement}
 use Rattle.sha512.proofs.message.after_end.Tie as tie
 
-after-blocks-requires : tie.Need-after-blocks-requires
-after-blocks-requires c κs = search needs
-
-mul-at : tie.Need-mul-at
-mul-at c = search needs
-
-sub-after-tail : tie.Need-sub-after-tail
-sub-after-tail c = search needs
-
-part-after-tail-start : tie.Need-part-after-tail-start
-part-after-tail-start c = search needs
-
-part-after-tail-end : tie.Need-part-after-tail-end
-part-after-tail-end c = search needs
-
-after-tail-requires : tie.Need-after-tail-requires
-after-tail-requires c κs = search needs
-
 returns : tie.Need-returns
 returns c = let p = c .before .before .before .before .args in
     let m = p .bytes .now in
@@ -39,11 +21,4 @@ returns c = let p = c .before .before .before .before .args in
 pub after-end-spec : {M : Type 1} → statement M
 after-end-spec =
     tie.close
-    (tie.spec
-    after-blocks-requires
-    mul-at
-    sub-after-tail
-    part-after-tail-start
-    part-after-tail-end
-    after-tail-requires
-    returns)
+    (tie.spec (λ c κs. search needs) (λ c. search needs) (λ c. search needs) (λ c. search needs) (λ c. search needs) (λ c κs. search needs) returns)

@@ -13,18 +13,6 @@ use borrow.Author.Needs.{needs}
 use Rattle.sha512.proofs.message.after_joined.Statement.{statement}
 use Rattle.sha512.proofs.message.after_joined.Tie as tie
 
-sub-room : tie.Need-sub-room
-sub-room c = search needs
-
-add-end : tie.Need-add-end
-add-end c = search needs
-
-filled-requires : tie.Need-filled-requires
-filled-requires c κs = search needs
-
-array-share-prefix-block : tie.Need-array-share-prefix-block
-array-share-prefix-block c = search needs
-
 slice-aggregate-after-tail : tie.Need-slice-aggregate-after-tail
 slice-aggregate-after-tail c = let l : length (c .before .filled .result) ≡ 128 = search needs in
     sym (length-take-le _ (c .before .filled .result) (omega arith))
@@ -50,24 +38,6 @@ filled-requires-2 : tie.Need-filled-requires-2
 filled-requires-2 c κs = let p = c .before .before .before .before .args in
     omega (arith, length-take-le (128 - length (p .tail .now)) (p .bytes .now) (omega arith))
 
-slice-aggregate-compressed : tie.Need-slice-aggregate-compressed
-slice-aggregate-compressed c = search needs
-
-compressed-requires : tie.Need-compressed-requires
-compressed-requires c κs = search needs
-
-sub-after-end : tie.Need-sub-after-end
-sub-after-end c = search needs
-
-part-after-end-start : tie.Need-part-after-end-start
-part-after-end-start c = search needs
-
-part-after-end-end : tie.Need-part-after-end-end
-part-after-end-end c = search needs
-
-after-end-requires : tie.Need-after-end-requires
-after-end-requires c κs = search needs
-
 returns-2 : tie.Need-returns-2
 returns-2 c = let f = c .before .before .before .before in
     let p = f .before .before .before .before .before .args in
@@ -85,20 +55,6 @@ returns-2 c = let f = c .before .before .before .before in
 pub after-joined-spec : {M : Type 1} → statement M
 after-joined-spec =
     tie.close
-    (tie.spec
-    sub-room
-    add-end
-    filled-requires
-    array-share-prefix-block
-    slice-aggregate-after-tail
-    after-tail-requires
-    returns
-    slice-aggregate-filled
-    filled-requires-2
-    slice-aggregate-compressed
-    compressed-requires
-    sub-after-end
-    part-after-end-start
-    part-after-end-end
-    after-end-requires
-    returns-2)
+    (tie.spec (λ c. search needs) (λ c. search needs) (λ c κs. search needs) (λ c. search needs) slice-aggregate-after-tail after-tail-requires returns
+    slice-aggregate-filled filled-requires-2 (λ c. search needs) (λ c κs. search needs) (λ c. search needs) (λ c. search needs) (λ c. search needs)
+    (λ c κs. search needs) returns-2)

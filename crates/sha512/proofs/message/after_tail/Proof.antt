@@ -14,21 +14,6 @@ use borrow.Author.Needs.{needs}
 use Rattle.sha512.proofs.message.after_tail.Statement.{statement}
 use Rattle.sha512.proofs.message.after_tail.Tie as tie
 
-slice-aggregate-filled : tie.Need-slice-aggregate-filled
-slice-aggregate-filled c = search needs
-
-filled-requires : tie.Need-filled-requires
-filled-requires c κs = search needs
-
-with-length-requires : tie.Need-with-length-requires
-with-length-requires c κs = search needs
-
-slice-aggregate-compressed : tie.Need-slice-aggregate-compressed
-slice-aggregate-compressed c = search needs
-
-compressed-requires : tie.Need-compressed-requires
-compressed-requires c κs = search needs
-
 returns : tie.Need-returns
 returns c = let f = c .before .before .before .before in
     let s = f .before .before .before in
@@ -40,21 +25,6 @@ returns c = let f = c .before .before .before .before in
     (c .before .before .with-length .ensures
     ∙ ap (λ (x : List ℕ). take 112 x ++ bytes16 (8 * n)) (f .filled .ensures)
     ∙ end-short (s .args .tail .now) n (s .pre) (omega arith))
-
-slice-aggregate-compressed-2 : tie.Need-slice-aggregate-compressed-2
-slice-aggregate-compressed-2 c = search needs
-
-compressed-requires-2 : tie.Need-compressed-requires-2
-compressed-requires-2 c κs = search needs
-
-with-length-requires-2 : tie.Need-with-length-requires-2
-with-length-requires-2 c κs = search needs
-
-slice-aggregate-compressed-3 : tie.Need-slice-aggregate-compressed-3
-slice-aggregate-compressed-3 c = search needs
-
-compressed-requires-3 : tie.Need-compressed-requires-3
-compressed-requires-3 c κs = search needs
 
 returns-2 : tie.Need-returns-2
 returns-2 c = let f = c .before .before .before .before .before .before in
@@ -73,16 +43,5 @@ returns-2 c = let f = c .before .before .before .before .before .before in
 pub after-tail-spec : {M : Type 1} → statement M
 after-tail-spec =
     tie.close
-    (tie.spec
-    slice-aggregate-filled
-    filled-requires
-    with-length-requires
-    slice-aggregate-compressed
-    compressed-requires
-    returns
-    slice-aggregate-compressed-2
-    compressed-requires-2
-    with-length-requires-2
-    slice-aggregate-compressed-3
-    compressed-requires-3
-    returns-2)
+    (tie.spec (λ c. search needs) (λ c κs. search needs) (λ c κs. search needs) (λ c. search needs) (λ c κs. search needs) returns (λ c. search needs)
+    (λ c κs. search needs) (λ c κs. search needs) (λ c. search needs) (λ c κs. search needs) returns-2)

@@ -21,33 +21,6 @@ loop-holds : tie.Need-loop-holds Inv-loop μ-loop
 unfolding bytesOf
 loop-holds c = (search needs, search needs, refl)
 
-mul-word-bytes : tie.Need-mul-word-bytes Inv-loop μ-loop
-mul-word-bytes c = search needs
-
-array-read-word-bytes : tie.Need-array-read-word-bytes Inv-loop μ-loop
-array-read-word-bytes c = search needs
-
-word-bytes-requires : tie.Need-word-bytes-requires Inv-loop μ-loop
-word-bytes-requires c κs = search needs
-
-slice-aggregate-put : tie.Need-slice-aggregate-put Inv-loop μ-loop
-slice-aggregate-put c = search needs
-
-mul-put : tie.Need-mul-put Inv-loop μ-loop
-mul-put c = search needs
-
-slice-aggregate-put-2 : tie.Need-slice-aggregate-put-2 Inv-loop μ-loop
-slice-aggregate-put-2 c = search needs
-
-put-requires : tie.Need-put-requires Inv-loop μ-loop
-put-requires c κs = search needs
-
-add-i : tie.Need-add-i Inv-loop μ-loop
-add-i c = search needs
-
-loop-less : tie.Need-loop-less Inv-loop μ-loop
-loop-less c = search needs
-
 loop-again : tie.Need-loop-again Inv-loop μ-loop
 loop-again c = let l = c .before .before .before .before .before .before .loop in (
   omega arith,
@@ -63,18 +36,5 @@ returns c = let l = c .before .loop in
 pub digest-spec : {M : Type 1} → statement M
 digest-spec =
     tie.close
-    (tie.spec
-    Inv-loop
-    μ-loop
-    loop-holds
-    mul-word-bytes
-    array-read-word-bytes
-    word-bytes-requires
-    slice-aggregate-put
-    mul-put
-    slice-aggregate-put-2
-    put-requires
-    add-i
-    loop-less
-    loop-again
-    returns)
+    (tie.spec Inv-loop μ-loop loop-holds (λ c. search needs) (λ c. search needs) (λ c κs. search needs) (λ c. search needs) (λ c. search needs)
+    (λ c. search needs) (λ c κs. search needs) (λ c. search needs) (λ c. search needs) loop-again returns)
