@@ -9,3 +9,5 @@ pub mod EntriesInverse
 pub mod OneEncoding
 pub mod Parts
 pub mod Buffer
+pub mod EncodedKey
+pub mod Evaluating

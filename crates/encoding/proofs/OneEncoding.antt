@@ -16,7 +16,7 @@ use Rattle.algebra.proofs.Test.{by-test}
 use Rattle.parameters.specs.declared.Params.{Params}
 use Rattle.encoding.specs.Bytes.{numbers, encoded, bits16, signed16, areBelow}
 use Rattle.encoding.specs.Challenge.{areEntries, challengeOf, entriesOf}
-use Rattle.encoding.specs.Encoding.{secretKeySize, isKeyByte, keyCoefficient, keyByte, secretKey, isKey, keyOf, publicKeySize, publicKey, PublicKeyRange, pointsOf, evaluationsOf, signatureSize, signatureBytes, SignatureRange, entriesRead, pointRead}
+use Rattle.encoding.specs.Encoding.{secretKeySize, isKeyByte, keyCoefficient, keyByte, secretKey, isKey, keyOf, publicKeySize, publicKey, PublicKeyRange, exponentsOf, evaluationsOf, signatureSize, signatureBytes, SignatureRange, entriesRead, zRead}
 use Rattle.encoding.proofs.Writing.{length-encoded}
 use Rattle.encoding.proofs.Inverse as inverse
 use Rattle.encoding.proofs.EntriesInverse as entries-inverse
@@ -57,26 +57,26 @@ key-written-back (x ∷ xs) h = ap (λ (l : List ℕ). x ∷ l) (bytes-back xs)
 
 -- ---- a public key
 
-module _ (p : Params) (s : ℕ) (points evaluations : List ℕ) (r : PublicKeyRange p points evaluations) where
+module _ (p : Params) (s : ℕ) (exponents evaluations : List ℕ) (r : PublicKeyRange p exponents evaluations) where
   -- its exponents and its evaluations are read back
-  pub points-read-back : pointsOf p (publicKey s points evaluations) ≡ points
-  unfolding pointsOf publicKey
-  points-read-back = inverse.read-first 2 (p .t) 3 (p .t) points (encoded 3 evaluations) (r .points-length) (r .points-below)
+  pub exponents-read-back : exponentsOf p (publicKey s exponents evaluations) ≡ exponents
+  unfolding exponentsOf publicKey
+  exponents-read-back = inverse.read-first 2 (p .t) 3 (p .t) exponents (encoded 3 evaluations) (r .exponents-length) (r .exponents-below)
 
-  pub evaluations-read-back : evaluationsOf p (publicKey s points evaluations) ≡ evaluations
+  pub evaluations-read-back : evaluationsOf p (publicKey s exponents evaluations) ≡ evaluations
   unfolding evaluationsOf publicKey
   evaluations-read-back =
       let e : 1 + 2 * p .t ≡ suc (2 * p .t) = omega arith in
-      rw e (inverse.read-second 2 (p .t) 3 (p .t) points evaluations (r .points-length) (r .evaluations-length) (r .evaluations-below))
+      rw e (inverse.read-second 2 (p .t) 3 (p .t) exponents evaluations (r .exponents-length) (r .evaluations-length) (r .evaluations-below))
 
-  pub public-key-length : length (publicKey s points evaluations) ≡ publicKeySize p
+  pub public-key-length : length (publicKey s exponents evaluations) ≡ publicKeySize p
   unfolding publicKey
   public-key-length =
-      omega (arith, length-append (encoded 2 points) (encoded 3 evaluations), length-encoded 2 points, length-encoded 3 evaluations, r .points-length, r .evaluations-length)
+      omega (arith, length-append (encoded 2 exponents) (encoded 3 evaluations), length-encoded 2 exponents, length-encoded 3 evaluations, r .exponents-length, r .evaluations-length)
 
 -- bytes that are read as a public key are written back
-pub public-key-written-back : (p : Params) (xs : List ℕ) → length xs ≡ publicKeySize p → T (areBelow 256 xs) → publicKey (getD xs 0 0) (pointsOf p xs) (evaluationsOf p xs) ≡ xs
-unfolding publicKey pointsOf evaluationsOf
+pub public-key-written-back : (p : Params) (xs : List ℕ) → length xs ≡ publicKeySize p → T (areBelow 256 xs) → publicKey (getD xs 0 0) (exponentsOf p xs) (evaluationsOf p xs) ≡ xs
+unfolding publicKey exponentsOf evaluationsOf
 public-key-written-back p [] l t = absurd (omega arith)
 public-key-written-back p (x ∷ xs) l t =
     let e : 1 + 2 * p .t ≡ suc (2 * p .t) = omega arith in
@@ -90,14 +90,14 @@ module _ (p : Params) (s : ℕ) (entries : List ℕ) (z : List ℤ) (r : Signatu
   unfolding entriesRead signatureBytes
   entries-read-back = inverse.read-first 2 (p .b) 2 (p .n) entries (encoded 2 (map bits16 z)) (r .entries-length) (r .entries-below)
 
-  pub point-read-back : pointRead p (signatureBytes s entries z) ≡ z
-  unfolding pointRead signatureBytes
-  point-read-back =
+  pub z-read-back : zRead p (signatureBytes s entries z) ≡ z
+  unfolding zRead signatureBytes
+  z-read-back =
       let e : 1 + 2 * p .b ≡ suc (2 * p .b) = omega arith in
-      let b : T (areBelow 65536 (map bits16 z)) = all-map bits16 (λ (y : ℤ). ltb (mag y) 32768) (λ (v : ℕ). ltb v 65536) inverse.bits-below z (r .point-signed) in
+      let b : T (areBelow 65536 (map bits16 z)) = all-map bits16 (λ (y : ℤ). ltb (mag y) 32768) (λ (v : ℕ). ltb v 65536) inverse.bits-below z (r .z-signed) in
       rw e
-      (ap (map signed16) (inverse.read-second 2 (p .b) 2 (p .n) entries (map bits16 z) (r .entries-length) (length-map z bits16 ∙ r .point-length) b)
-      ∙ inverse.map-back bits16 signed16 (λ (y : ℤ). ltb (mag y) 32768) inverse.signed-of-bits z (r .point-signed))
+      (ap (map signed16) (inverse.read-second 2 (p .b) 2 (p .n) entries (map bits16 z) (r .entries-length) (length-map z bits16 ∙ r .z-length) b)
+      ∙ inverse.map-back bits16 signed16 (λ (y : ℤ). ltb (mag y) 32768) inverse.signed-of-bits z (r .z-signed))
 
   pub signature-length : length (signatureBytes s entries z) ≡ signatureSize p
   unfolding signatureBytes
@@ -109,20 +109,20 @@ module _ (p : Params) (s : ℕ) (entries : List ℕ) (z : List ℤ) (r : Signatu
         length-encoded 2 (map bits16 z),
         length-map z bits16,
         r .entries-length,
-        r .point-length,
+        r .z-length,
       )
 
 -- bytes that are read as a signature are written back
-pub signature-written-back : (p : Params) (xs : List ℕ) → length xs ≡ signatureSize p → T (areBelow 256 xs) → signatureBytes (getD xs 0 0) (entriesRead p xs) (pointRead p xs) ≡ xs
-unfolding signatureBytes entriesRead pointRead
+pub signature-written-back : (p : Params) (xs : List ℕ) → length xs ≡ signatureSize p → T (areBelow 256 xs) → signatureBytes (getD xs 0 0) (entriesRead p xs) (zRead p xs) ≡ xs
+unfolding signatureBytes entriesRead zRead
 signature-written-back p [] l t = absurd (omega arith)
 signature-written-back p (x ∷ xs) l t =
     let e : 1 + 2 * p .b ≡ suc (2 * p .b) = omega arith in
     let bytes : T (areBelow 256 xs) = all-drop (λ (y : ℕ). ltb y 256) 1 (x ∷ xs) t in
-    let point : List ℕ = numbers 2 (p .n) (drop (2 * p .b) xs) in
-    let below : T (areBelow 65536 point) = inverse.numbers-below 2 (p .n) (drop (2 * p .b) xs) (omega (arith, length-drop (2 * p .b) xs)) (all-drop (λ (y : ℕ). ltb y 256) (2 * p .b) xs bytes) in
+    let zOf : List ℕ = numbers 2 (p .n) (drop (2 * p .b) xs) in
+    let below : T (areBelow 65536 zOf) = inverse.numbers-below 2 (p .n) (drop (2 * p .b) xs) (omega (arith, length-drop (2 * p .b) xs)) (all-drop (λ (y : ℕ). ltb y 256) (2 * p .b) xs bytes) in
     rw e
-    (ap (λ (y : List ℕ). x ∷ (encoded 2 (numbers 2 (p .b) xs) ++ encoded 2 y)) (inverse.map-back signed16 bits16 (λ (v : ℕ). ltb v 65536) inverse.bits-of-signed point below)
+    (ap (λ (y : List ℕ). x ∷ (encoded 2 (numbers 2 (p .b) xs) ++ encoded 2 y)) (inverse.map-back signed16 bits16 (λ (v : ℕ). ltb v 65536) inverse.bits-of-signed zOf below)
     ∙ ap (λ (y : List ℕ). x ∷ y) (inverse.written-both 2 (p .b) 2 (p .n) xs (omega arith) bytes))
 
 -- ---- a challenge
@@ -145,30 +145,30 @@ entries-written-back n es t b = entries-inverse.entries-of-coefficients n 0 n es
 
 -- bytes of a signature's size whose entries are allowed are what is written for their meaning: their challenge and their point
 pub signature-of-meaning : (p : Params) (xs : List ℕ) → length xs ≡ signatureSize p → T (areBelow 256 xs) → T (areEntries (p .n) (entriesRead p xs))
-    → signatureBytes (getD xs 0 0) (entriesOf (challengeOf (p .n) (entriesRead p xs))) (pointRead p xs) ≡ xs
+    → signatureBytes (getD xs 0 0) (entriesOf (challengeOf (p .n) (entriesRead p xs))) (zRead p xs) ≡ xs
 unfolding entriesRead
 signature-of-meaning p xs l t allowed =
     let below : T (areBelow 65536 (entriesRead p xs)) = inverse.numbers-below 2 (p .b) (drop 1 xs) (omega (arith, length-drop 1 xs)) (all-drop (λ (y : ℕ). ltb y 256) 1 xs t) in
-    ap (λ (es : List ℕ). signatureBytes (getD xs 0 0) es (pointRead p xs)) (entries-written-back (p .n) (entriesRead p xs) allowed below) ∙ signature-written-back p xs l t
+    ap (λ (es : List ℕ). signatureBytes (getD xs 0 0) es (zRead p xs)) (entries-written-back (p .n) (entriesRead p xs) allowed below) ∙ signature-written-back p xs l t
 
 -- two byte strings that are accepted, with the same first byte and the same meaning, are the same bytes; asked of them is only what is used of their being accepted
 module _ (p : Params) (xs ys : List ℕ) (first : getD xs 0 0 ≡ getD ys 0 0) where
   -- signatures that have the same challenge and the same point
   pub one-signature : length xs ≡ signatureSize p → T (areBelow 256 xs) → T (areEntries (p .n) (entriesRead p xs))
       → length ys ≡ signatureSize p → T (areBelow 256 ys) → T (areEntries (p .n) (entriesRead p ys))
-      → challengeOf (p .n) (entriesRead p xs) ≡ challengeOf (p .n) (entriesRead p ys) → pointRead p xs ≡ pointRead p ys → xs ≡ ys
-  one-signature l t allowed l' t' allowed' challenge point =
+      → challengeOf (p .n) (entriesRead p xs) ≡ challengeOf (p .n) (entriesRead p ys) → zRead p xs ≡ zRead p ys → xs ≡ ys
+  one-signature l t allowed l' t' allowed' challenge zOf =
       sym (signature-of-meaning p xs l t allowed)
-      ∙ ap (λ (s : ℕ). signatureBytes s (entriesOf (challengeOf (p .n) (entriesRead p xs))) (pointRead p xs)) first
-      ∙ ap₂ (λ (c z : List ℤ). signatureBytes (getD ys 0 0) (entriesOf c) z) challenge point ∙ signature-of-meaning p ys l' t' allowed'
+      ∙ ap (λ (s : ℕ). signatureBytes s (entriesOf (challengeOf (p .n) (entriesRead p xs))) (zRead p xs)) first
+      ∙ ap₂ (λ (c z : List ℤ). signatureBytes (getD ys 0 0) (entriesOf c) z) challenge zOf ∙ signature-of-meaning p ys l' t' allowed'
 
   -- public keys that have the same exponents and the same evaluations
   pub one-public-key : length xs ≡ publicKeySize p → T (areBelow 256 xs) → length ys ≡ publicKeySize p → T (areBelow 256 ys)
-      → pointsOf p xs ≡ pointsOf p ys → evaluationsOf p xs ≡ evaluationsOf p ys → xs ≡ ys
-  one-public-key l t l' t' points evaluations =
+      → exponentsOf p xs ≡ exponentsOf p ys → evaluationsOf p xs ≡ evaluationsOf p ys → xs ≡ ys
+  one-public-key l t l' t' exponents evaluations =
       sym (public-key-written-back p xs l t)
-      ∙ ap (λ (s : ℕ). publicKey s (pointsOf p xs) (evaluationsOf p xs)) first
-      ∙ ap₂ (λ (js vs : List ℕ). publicKey (getD ys 0 0) js vs) points evaluations ∙ public-key-written-back p ys l' t'
+      ∙ ap (λ (s : ℕ). publicKey s (exponentsOf p xs) (evaluationsOf p xs)) first
+      ∙ ap₂ (λ (js vs : List ℕ). publicKey (getD ys 0 0) js vs) exponents evaluations ∙ public-key-written-back p ys l' t'
 
   -- secret keys that are the same polynomial
   pub one-secret-key : length xs ≡ secretKeySize p → length ys ≡ secretKeySize p → keyOf xs ≡ keyOf ys → xs ≡ ys

@@ -11,16 +11,16 @@ use Rattle.algebra.proofs.All.{all-from, all-weaker}
 use Rattle.algebra.proofs.Test.{true-holds}
 use Rattle.parameters.specs.declared.Params.{Params}
 use Rattle.parameters.specs.Sound.{Fitting}
-use Rattle.encoding.specs.Encoding.{PublicKeyRange, arePoints, areEvaluations}
+use Rattle.encoding.specs.Encoding.{PublicKeyRange, areExponents, areEvaluations}
 use Rattle.encoding.proofs.Testing.{increasing-below}
 
-pub public-key-range : {p : Params} → Fitting p → (points evaluations : List ℕ) → length points ≡ p .t → arePoints p points ≡ true
-    → length evaluations ≡ p .t → areEvaluations p evaluations ≡ true → PublicKeyRange p points evaluations
-public-key-range {p} fitting points evaluations size rise size′ below = record {
-  points-length = size;
-  points-below =
-      all-from (λ (j : ℕ). ltb j 65536) points 0
-      (λ i h. lt→ltb (getD points i 0) 65536 (omega (arith, increasing-below (p .n) 1 points (true-holds rise) i h, fitting .size)));
+pub public-key-range : {p : Params} → Fitting p → (exponents evaluations : List ℕ) → length exponents ≡ p .t → areExponents p exponents ≡ true
+    → length evaluations ≡ p .t → areEvaluations p evaluations ≡ true → PublicKeyRange p exponents evaluations
+public-key-range {p} fitting exponents evaluations size rise size′ below = record {
+  exponents-length = size;
+  exponents-below =
+      all-from (λ (j : ℕ). ltb j 65536) exponents 0
+      (λ i h. lt→ltb (getD exponents i 0) 65536 (omega (arith, increasing-below (p .n) 1 exponents (true-holds rise) i h, fitting .size)));
   evaluations-length = size′;
   evaluations-below =
       all-weaker (λ (v : ℕ). ltb v (p .q)) (λ (v : ℕ). ltb v 16777216) (λ v t. lt→ltb v 16777216 (omega (arith, ltb→lt v (p .q) t, fitting .modulus)))

@@ -43,26 +43,26 @@ abbrev pub publicKeySize : Params → ℕ
 publicKeySize p = 1 + 2 * p .t + 3 * p .t
 
 unfoldable pub publicKey : ℕ → List ℕ → List ℕ → List ℕ
-publicKey s points evaluations = s ∷ (encoded 2 points ++ encoded 3 evaluations)
+publicKey s exponents evaluations = s ∷ (encoded 2 exponents ++ encoded 3 evaluations)
 
 -- exponents strictly increasing, each in 1..N-1
-abbrev pub arePoints : Params → List ℕ → Bool
-arePoints p js = increasing (p .n) 1 js
+abbrev pub areExponents : Params → List ℕ → Bool
+areExponents p js = increasing (p .n) 1 js
 
 -- evaluations below q
 abbrev pub areEvaluations : Params → List ℕ → Bool
 areEvaluations p vs = areBelow (p .q) vs
 
 -- lists that a public key has room for
-pub record PublicKeyRange (p : Params) (points evaluations : List ℕ) : Type 0 where
-  pub points-length : length points ≡ p .t
-  pub points-below : T (areBelow 65536 points)
+pub record PublicKeyRange (p : Params) (exponents evaluations : List ℕ) : Type 0 where
+  pub exponents-length : length exponents ≡ p .t
+  pub exponents-below : T (areBelow 65536 exponents)
   pub evaluations-length : length evaluations ≡ p .t
   pub evaluations-below : T (areBelow 16777216 evaluations)
 
 -- what is read: the exponents and the evaluations
-unfoldable pub pointsOf : Params → List ℕ → List ℕ
-pointsOf p xs = numbers 2 (p .t) (drop 1 xs)
+unfoldable pub exponentsOf : Params → List ℕ → List ℕ
+exponentsOf p xs = numbers 2 (p .t) (drop 1 xs)
 
 unfoldable pub evaluationsOf : Params → List ℕ → List ℕ
 evaluationsOf p xs = numbers 3 (p .t) (drop (1 + 2 * p .t) xs)
@@ -79,12 +79,12 @@ signatureBytes s entries z = s ∷ (encoded 2 entries ++ encoded 2 (map bits16 z
 pub record SignatureRange (p : Params) (entries : List ℕ) (z : List ℤ) : Type 0 where
   pub entries-length : length entries ≡ p .b
   pub entries-below : T (areBelow 65536 entries)
-  pub point-length : length z ≡ p .n
-  pub point-signed : T (areSigned16 z)
+  pub z-length : length z ≡ p .n
+  pub z-signed : T (areSigned16 z)
 
 -- what is read: the challenge entries and the point
 unfoldable pub entriesRead : Params → List ℕ → List ℕ
 entriesRead p xs = numbers 2 (p .b) (drop 1 xs)
 
-unfoldable pub pointRead : Params → List ℕ → List ℤ
-pointRead p xs = map signed16 (numbers 2 (p .n) (drop (1 + 2 * p .b) xs))
+unfoldable pub zRead : Params → List ℕ → List ℤ
+zRead p xs = map signed16 (numbers 2 (p .n) (drop (1 + 2 * p .b) xs))

@@ -5,14 +5,14 @@ ghost use Rattle.encoding.specs.Bytes.{areBelow, increasing};
 use crate::increasing::is_next;
 
 // Whether the exponents are strictly increasing, each in 1..n-1.
-pub fn are_points(points: &[u16], n: usize) -> bool
-    ensures { λ r. ⌜ r ≡ increasing n 1 (now (points .entry)) ⌝ }
+pub fn are_exponents(exponents: &[u16], n: usize) -> bool
+    ensures { λ r. ⌜ r ≡ increasing n 1 (now (exponents .entry)) ⌝ }
 {
     let mut ok = true;
     let mut from: usize = 1;
     let mut i: usize = 0;
-    while i < points.len() {
-        let j = points[i] as usize;
+    while i < exponents.len() {
+        let j = exponents[i] as usize;
         ok = ok & is_next(from, j, n);
         from = j + 1;
         i += 1;

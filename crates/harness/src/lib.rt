@@ -6,7 +6,7 @@ ghost use mathlib.Core.List.{_++_};
 ghost use Prim.Native.Nat.{_≤_};
 ghost use lib.Dec.{T};
 ghost use lib.ListN.{length};
-ghost use Rattle.polynomial.specs.Polynomial.{point, ternary};
+ghost use Rattle.polynomial.specs.Polynomial.{zOf, ternary};
 ghost use Rattle.sha512.specs.Digest.{SHA-512};
 
 #[no_mangle]
@@ -29,7 +29,7 @@ pub extern "C" fn harness_sha512_of_two(first: &[u8], second: &[u8], out: &mut [
 pub extern "C" fn harness_point(f: &[i16], c: &[i8], y: &[i16], z: &mut [i32])
     requires { ⌜ (length (now f) ≤ 1153) × (length (now c) ≡ length (now f)) × (length (now y) ≡ length (now f)) × (length (now z) ≡ length (now f)) ⌝ }
     requires { ⌜ T (ternary (now f)) × T (ternary (now c)) ⌝ }
-    ensures { λ _. ⌜ now (z .exit) ≡ point (now (f .entry)) (now (c .entry)) (now (y .entry)) ⌝ }
+    ensures { λ _. ⌜ now (z .exit) ≡ zOf (now (f .entry)) (now (c .entry)) (now (y .entry)) ⌝ }
 {
-    polynomial::point::point_of(f, c, y, z);
+    polynomial::product::z_of(f, c, y, z);
 }

@@ -31,7 +31,7 @@ fitting-of-test p t =
       modulus = ltb→lt (p .q) (2 ^ 20) (and-left (ltb (p .q) (2 ^ 20)) _ u);
       mask = ltb→lt (p .k) (2 ^ 15) (and-left (ltb (p .k) (2 ^ 15)) _ v);
       weight = leb→le (p .b) 64 (and-left (leb (p .b) 64) _ w);
-      points = ltb→lt (p .t) (p .n) (and-right (leb (p .b) 64) _ w);
+      exponents = ltb→lt (p .t) (p .n) (and-right (leb (p .b) 64) _ w);
     }
 
 sets-sound : T (all isSound sets)

@@ -24,7 +24,7 @@ pub record Fitting (p : Params) : Type 0 where
   pub modulus : p .q < 2 ^ 20
   pub mask : p .k < 2 ^ 15
   pub weight : p .b ≤ 64
-  pub points : p .t < p .n
+  pub exponents : p .t < p .n
 
 unfoldable pub isFitting : Params → Bool
 isFitting p = leb (p .n) 1153 && (ltb (p .q) (2 ^ 20) && (ltb (p .k) (2 ^ 15) && (leb (p .b) 64 && ltb (p .t) (p .n))))

@@ -10,67 +10,67 @@ use Rattle.parameters.specs.declared.Params.{Params}
 use Rattle.polynomial.specs.Evaluation.{evaluations}
 use Rattle.challenge.specs.Draw.{drawChallenge}
 use Rattle.encoding.specs.Challenge.{areEntries}
-use Rattle.encoding.specs.Encoding.{publicKey, arePoints, areEvaluations, keyOf, entriesRead, signatureBytes}
+use Rattle.encoding.specs.Encoding.{publicKey, areExponents, areEvaluations, keyOf, entriesRead, signatureBytes}
 use Rattle.scheme.specs.Scheme.{Drawer, Signed}
 use Rattle.scheme.proofs.Correctness as polynomials
 use Rattle.scheme.proofs.Verdict.{verdict-true}
-use Rattle.signer.specs.Signer.{masksOf, signatureOf}
-use Rattle.answers.specs.declared.Signing.the-variants as signing
-use Rattle.answers.specs.declared.Verdict.the-variants as verdict
-use Rattle.answers.specs.Answer.{setByte, setIn}
-use Rattle.entry_sign.specs.Sign.{signAnswerIn, signWrittenIn, signAnswer, signWritten}
-use Rattle.entry_check.specs.Check.{checkRefusalIn, checkAnswerIn, checkAnswer}
-use Rattle.entry_values.specs.Keys.{publicKeyRefusal, publicKeyIn, publicKeyWritten}
+use Rattle.signing.specs.Signer.{masksOf, signatureOf}
+use Rattle.refusal.specs.declared.Signing.the-variants as signing
+use Rattle.refusal.specs.declared.Verdict.the-variants as verdict
+use Rattle.refusal.specs.Answer.{setByte, setIn}
+use Rattle.signing.specs.Sign.{signAnswerIn, signWrittenIn, signAnswer, signWritten}
+use Rattle.checking.specs.Check.{checkRefusalIn, checkAnswerIn, checkAnswer}
+use Rattle.values.specs.Keys.{publicKeyRefusal, publicKeyIn, publicKeyWritten}
 use Rattle.passign.specs.VerdictRule.{Rule}
 use Rattle.passign.specs.Hiding.{Encodable}
-use Rattle.answers.proofs.Apart.{refused-not-signed, refused-not-yes}
-use Rattle.entry_check.proofs.Allowed.{check-allowed}
+use Rattle.refusal.proofs.Apart.{refused-not-signed, refused-not-yes}
+use Rattle.checking.proofs.Allowed.{check-allowed}
 use Rattle.passign.proofs.Encoded.{PublicKeyRead, public-key-read, signature-size, entries-allowed}
-use Rattle.entry_sign.proofs.AcceptedSigning.{SignedAs, signed-bytes, accepted-signing, signing-of, allowed-of, size-of-key}
+use Rattle.signing.proofs.AcceptedSigning.{SignedAs, signed-bytes, accepted-signing, signing-of, allowed-of, size-of-key}
 use Rattle.passign.proofs.AcceptedBytes.{signature-fits, meaning}
 use Rattle.passign.proofs.VerdictRule.{verdict-yes}
 use Rattle.passign.proofs.FiveSets.{set-encodable}
 use Rattle.passign.proofs.Entry.{sign-entry, written-entry, check-entry, public-key-entry}
 
-module _ {draw : Drawer} {p : Params} (e : Encodable draw p) (key points : List ℕ) (masks : List ℤ) (message out : List ℕ) where
-  module _ {r : Signed} {i : ℕ} (a : SignedAs draw p key points masks message out r i) where
-    public-key : PublicKeyRead p (publicKeyIn p key points) points (evaluations p (keyOf key) points)
+module _ {draw : Drawer} {p : Params} (e : Encodable draw p) (key exponents : List ℕ) (masks : List ℤ) (message out : List ℕ) where
+  module _ {r : Signed} {i : ℕ} (a : SignedAs draw p key exponents masks message out r i) where
+    public-key : PublicKeyRead p (publicKeyIn p key exponents) exponents (evaluations p (keyOf key) exponents)
     unfolding publicKeyIn
-    public-key = public-key-read (e .sound) (e .fitting) (setByte key) (keyOf key) points (allowed-of a .points-size) (allowed-of a .points-rise)
+    public-key = public-key-read (e .sound) (e .fitting) (setByte key) (keyOf key) exponents (allowed-of a .exponents-size) (allowed-of a .exponents-rise)
 
     -- the check is not refused
-    allowed : checkRefusalIn p (publicKeyIn p key points) (signWrittenIn draw p key points masks message out) ≡ 0
+    allowed : checkRefusalIn p (publicKeyIn p key exponents) (signWrittenIn draw p key exponents masks message out) ≡ 0
     allowed =
-        check-allowed p (publicKeyIn p key points) (signWrittenIn draw p key points masks message out) .1 (record {
+        check-allowed p (publicKeyIn p key exponents) (signWrittenIn draw p key exponents masks message out) .1 (record {
           key-size = public-key .size;
           signature-size = ap length (signed-bytes a) ∙ signature-size (e .fitting) (setByte key) (r .signature) (signature-fits a e);
-          points-rise = ap (arePoints p) (public-key .points-back) ∙ allowed-of a .points-rise;
+          exponents-rise = ap (areExponents p) (public-key .exponents-back) ∙ allowed-of a .exponents-rise;
           evaluations-below = ap (areEvaluations p) (public-key .evaluations-back) ∙ public-key .evaluations-allowed;
           entries-increase =
               ap (λ (xs : List ℕ). areEntries (p .n) (entriesRead p xs)) (signed-bytes a) ∙ entries-allowed (e .fitting) (setByte key) (r .signature) (signature-fits a e);
         })
 
     -- and the rule holds of what is read
-    rule : Rule draw p (publicKeyIn p key points) message (signWrittenIn draw p key points masks message out)
+    rule : Rule draw p (publicKeyIn p key exponents) message (signWrittenIn draw p key exponents masks message out)
     rule =
-        rw (public-key .points-back, public-key .evaluations-back, meaning a e)
-        (verdict-true draw p points message (evaluations p (keyOf key) points) (r .signature) .0
-        (polynomials.correctness draw (e .sound) points message (keyOf key) (masksOf p masks) r (size-of-key a) (signing-of a)))
+        rw (public-key .exponents-back, public-key .evaluations-back, meaning a e)
+        (verdict-true draw p exponents message (evaluations p (keyOf key) exponents) (r .signature) .0
+        (polynomials.correctness draw (e .sound) exponents message (keyOf key) (masksOf p masks) r (size-of-key a) (signing-of a)))
 
   -- in any set, with any way to draw
-  pub correctness : {i : ℕ} → signAnswerIn draw p key points masks message out ≡ signing.Signed i
-      → checkAnswerIn draw p (publicKeyIn p key points) message (signWrittenIn draw p key points masks message out) ≡ verdict.Yes
+  pub correctness : {i : ℕ} → signAnswerIn draw p key exponents masks message out ≡ signing.Signed i
+      → checkAnswerIn draw p (publicKeyIn p key exponents) message (signWrittenIn draw p key exponents masks message out) ≡ verdict.Yes
   correctness accepted =
-      let w = accepted-signing draw p key points masks message out accepted in
-      verdict-yes draw p (publicKeyIn p key points) message (signWrittenIn draw p key points masks message out) .1 (allowed (w .1), rule (w .1))
+      let w = accepted-signing draw p key exponents masks message out accepted in
+      verdict-yes draw p (publicKeyIn p key exponents) message (signWrittenIn draw p key exponents masks message out) .1 (allowed (w .1), rule (w .1))
 
 -- the bytes written begin with the key's set, so they are not empty
-module _ (p : Params) (key points : List ℕ) where
-  pub set-of-public-key : setByte (publicKeyIn p key points) ≡ setByte key
+module _ (p : Params) (key exponents : List ℕ) where
+  pub set-of-public-key : setByte (publicKeyIn p key exponents) ≡ setByte key
   unfolding publicKeyIn publicKey
   set-of-public-key = refl
 
-  public-key-some : length (publicKeyIn p key points) ≡ 0 → ⊥
+  public-key-some : length (publicKeyIn p key exponents) ≡ 0 → ⊥
   unfolding publicKeyIn publicKey
   public-key-some h = omega arith
 
@@ -84,30 +84,30 @@ module _ (xs : List ℕ) (s : ℕ) (r : Signed) (is : xs ≡ signatureOf s (r .s
   signature-some h = omega (arith, h, ap length is)
 
 -- the entries, in the five sets
-module _ (key points : List ℕ) (masks : List ℤ) (message out : List ℕ) where
+module _ (key exponents : List ℕ) (masks : List ℤ) (message out : List ℕ) where
   -- where the public key is given
-  pub sign-then-check : {i : ℕ} → signAnswer key points masks message out ≡ signing.Signed i
-      → checkAnswer (publicKeyIn (setIn key) key points) message (signWritten key points masks message out) ≡ verdict.Yes
+  pub sign-then-check : {i : ℕ} → signAnswer key exponents masks message out ≡ signing.Signed i
+      → checkAnswer (publicKeyIn (setIn key) key exponents) message (signWritten key exponents masks message out) ≡ verdict.Yes
   sign-then-check accepted =
-      let h = sign-entry refused-not-signed refused-not-signed key points masks message out .0 accepted in
+      let h = sign-entry refused-not-signed refused-not-signed key exponents masks message out .0 accepted in
       let p = setIn key in
-      let w = accepted-signing drawChallenge p key points masks message out (h .1) in
-      let is = written-entry key points masks message out (h .0) ∙ signed-bytes (w .1) in
-      check-entry refused-not-yes refused-not-yes (publicKeyIn p key points) message (signWritten key points masks message out) .1 (
+      let w = accepted-signing drawChallenge p key exponents masks message out (h .1) in
+      let is = written-entry key exponents masks message out (h .0) ∙ signed-bytes (w .1) in
+      check-entry refused-not-yes refused-not-yes (publicKeyIn p key exponents) message (signWritten key exponents masks message out) .1 (
         record {
           known = record {
             message-size = h .0 .message-size;
-            key-some = public-key-some p key points;
-            set = rw (set-of-public-key p key points) (h .0 .set);
+            key-some = public-key-some p key exponents;
+            set = rw (set-of-public-key p key exponents) (h .0 .set);
           };
-          signature-some = signature-some (signWritten key points masks message out) (setByte key) (w .0) is;
-          same-set = set-of-signature (signWritten key points masks message out) (setByte key) (w .0) is ∙ sym (set-of-public-key p key points);
+          signature-some = signature-some (signWritten key exponents masks message out) (setByte key) (w .0) is;
+          same-set = set-of-signature (signWritten key exponents masks message out) (setByte key) (w .0) is ∙ sym (set-of-public-key p key exponents);
         },
-        rw (set-of-public-key p key points, written-entry key points masks message out (h .0)) (correctness (set-encodable (setByte key) (h .0 .set)) key points masks message out (h .1)),
+        rw (set-of-public-key p key exponents, written-entry key exponents masks message out (h .0)) (correctness (set-encodable (setByte key) (h .0 .set)) key exponents masks message out (h .1)),
       )
 
   -- where `public_key` wrote it
-  pub entry-correctness : {i : ℕ} (room : List ℕ) → signAnswer key points masks message out ≡ signing.Signed i → publicKeyRefusal key points room ≡ 0
-      → checkAnswer (publicKeyWritten key points room) message (signWritten key points masks message out) ≡ verdict.Yes
+  pub entry-correctness : {i : ℕ} (room : List ℕ) → signAnswer key exponents masks message out ≡ signing.Signed i → publicKeyRefusal key exponents room ≡ 0
+      → checkAnswer (publicKeyWritten key exponents room) message (signWritten key exponents masks message out) ≡ verdict.Yes
   entry-correctness room accepted allowed =
-      ap (λ (k : List ℕ). checkAnswer k message (signWritten key points masks message out)) (public-key-entry key points room allowed) ∙ sign-then-check accepted
+      ap (λ (k : List ℕ). checkAnswer k message (signWritten key exponents masks message out)) (public-key-entry key exponents room allowed) ∙ sign-then-check accepted

@@ -18,34 +18,34 @@ use Rattle.polynomial.specs.Evaluation.{evaluations}
 use Rattle.polynomial.proofs.EvaluationLaws.{length-evaluations, evaluations-below}
 use Rattle.challenge.specs.Draw.{Sparse}
 use Rattle.encoding.specs.Challenge.{entriesOf, areEntries, challengeOf}
-use Rattle.encoding.specs.Encoding.{publicKeySize, publicKey, arePoints, areEvaluations, pointsOf, evaluationsOf, signatureSize, SignatureRange, entriesRead, pointRead}
+use Rattle.encoding.specs.Encoding.{publicKeySize, publicKey, areExponents, areEvaluations, exponentsOf, evaluationsOf, signatureSize, SignatureRange, entriesRead, zRead}
 use Rattle.encoding.proofs.Sign.{mag-le}
 use Rattle.encoding.proofs.Range.{public-key-range}
-use Rattle.encoding.proofs.OneEncoding.{points-read-back, evaluations-read-back, public-key-length, entries-read-back, point-read-back, signature-length, entries-accepted, entries-below, challenge-read-back}
+use Rattle.encoding.proofs.OneEncoding.{exponents-read-back, evaluations-read-back, public-key-length, entries-read-back, z-read-back, signature-length, entries-accepted, entries-below, challenge-read-back}
 use Rattle.scheme.specs.Scheme.{Signature}
-use Rattle.signer.specs.Signer.{signatureOf}
-use Rattle.signer.proofs.EntryCount.{length-entries}
-use Rattle.entry_check.specs.Check.{signatureRead}
+use Rattle.signing.specs.Signer.{signatureOf}
+use Rattle.signing.proofs.EntryCount.{length-entries}
+use Rattle.checking.specs.Check.{signatureRead}
 
 -- ---- public keys
 
 -- the bytes are a public key of its size, and points and evaluations are read back from it
-pub record PublicKeyRead (p : Params) (key points vs : List ℕ) : Type 0 where
+pub record PublicKeyRead (p : Params) (key exponents vs : List ℕ) : Type 0 where
   pub size : length key ≡ publicKeySize p
-  pub points-back : pointsOf p key ≡ points
+  pub exponents-back : exponentsOf p key ≡ exponents
   pub evaluations-back : evaluationsOf p key ≡ vs
   pub evaluations-allowed : areEvaluations p vs ≡ true
 
-pub public-key-read : {p : Params} → Sound p → Fitting p → (set : ℕ) (f : List ℤ) (points : List ℕ) → length points ≡ p .t → arePoints p points ≡ true
-    → PublicKeyRead p (publicKey set points (evaluations p f points)) points (evaluations p f points)
-public-key-read {p} sound fitting set f points size rise =
-    let vs = evaluations p f points in
-    let below : areEvaluations p vs ≡ true = holds-true (areEvaluations p vs) (evaluations-below sound f points) in
-    let r = public-key-range fitting points vs size rise (length-evaluations p f points ∙ size) below in
+pub public-key-read : {p : Params} → Sound p → Fitting p → (set : ℕ) (f : List ℤ) (exponents : List ℕ) → length exponents ≡ p .t → areExponents p exponents ≡ true
+    → PublicKeyRead p (publicKey set exponents (evaluations p f exponents)) exponents (evaluations p f exponents)
+public-key-read {p} sound fitting set f exponents size rise =
+    let vs = evaluations p f exponents in
+    let below : areEvaluations p vs ≡ true = holds-true (areEvaluations p vs) (evaluations-below sound f exponents) in
+    let r = public-key-range fitting exponents vs size rise (length-evaluations p f exponents ∙ size) below in
     record {
-      size = public-key-length p set points vs r;
-      points-back = points-read-back p set points vs r;
-      evaluations-back = evaluations-read-back p set points vs r;
+      size = public-key-length p set exponents vs r;
+      exponents-back = exponents-read-back p set exponents vs r;
+      evaluations-back = evaluations-read-back p set exponents vs r;
       evaluations-allowed = below;
     }
 
@@ -54,7 +54,7 @@ public-key-read {p} sound fitting set f points size rise =
 -- what the signature of an accepted signing has: a sparse challenge, and a point of N coefficients in range
 pub record SignatureFits (p : Params) (s : Signature) : Type 0 where
   pub challenge : Sparse p (s .c)
-  pub point-size : length (s .z) ≡ p .n
+  pub z-size : length (s .z) ≡ p .n
   pub range : T (within (p .k - p .b) (s .z))
 
 module _ {p : Params} (fitting : Fitting p) (set : ℕ) (s : Signature) (w : SignatureFits p s) where
@@ -65,8 +65,8 @@ module _ {p : Params} (fitting : Fitting p) (set : ℕ) (s : Signature) (w : Sig
   signature-range = record {
     entries-length = length-entries 0 (s .c) (w .challenge .small) ∙ w .challenge .full;
     entries-below = entries-below (s .c) challenge-fits;
-    point-length = w .point-size;
-    point-signed =
+    z-length = w .z-size;
+    z-signed =
         all-weaker (λ (a : ℤ). leb (natAbs a) (p .k - p .b)) (λ (a : ℤ). ltb (mag a) 32768)
         (λ a t. lt→ltb (mag a) 32768 (omega (arith, mag-le a, leb→le (natAbs a) (p .k - p .b) t, fitting .mask))) (s .z) (w .range);
   }
@@ -79,9 +79,9 @@ module _ {p : Params} (fitting : Fitting p) (set : ℕ) (s : Signature) (w : Sig
   unfolding signatureOf
   entries-back = entries-read-back p set (entriesOf (s .c)) (s .z) signature-range
 
-  point-back : pointRead p (signatureOf set s) ≡ s .z
+  z-back : zRead p (signatureOf set s) ≡ s .z
   unfolding signatureOf
-  point-back = point-read-back p set (entriesOf (s .c)) (s .z) signature-range
+  z-back = z-read-back p set (entriesOf (s .c)) (s .z) signature-range
 
   pub entries-allowed : areEntries (p .n) (entriesRead p (signatureOf set s)) ≡ true
   entries-allowed =
@@ -95,4 +95,4 @@ module _ {p : Params} (fitting : Fitting p) (set : ℕ) (s : Signature) (w : Sig
       ap₂ (λ (c z : List ℤ). record { c = c; z = z })
       (ap (challengeOf (p .n)) entries-back ∙ ap (λ (n : ℕ). challengeOf n (entriesOf (s .c))) (sym (w .challenge .size))
       ∙ challenge-read-back (s .c) challenge-fits (w .challenge .small))
-      point-back
+      z-back

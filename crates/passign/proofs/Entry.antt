@@ -10,22 +10,22 @@ use lib.ListN.{length}
 use borrow.Author.Tests.{ltb-true, ltb-false, eqb-false, lt-ltb, le-ltb, ne-eqb}
 use Rattle.parameters.specs.Sets.{isSet}
 use Rattle.challenge.specs.Draw.{drawChallenge}
-use Rattle.answers.specs.declared.Signing.{Signing}
-use Rattle.answers.specs.declared.Signing.the-variants as signing
-use Rattle.answers.specs.declared.Verdict.{Verdict}
-use Rattle.answers.specs.declared.Verdict.the-variants as verdict
-use Rattle.answers.specs.Answer.{setByte, setIn, isLong}
-use Rattle.entry_sign.specs.Sign.{signAnswerIn, signWrittenIn, signAnswer, signWritten}
-use Rattle.entry_check.specs.Check.{checkAnswerIn, checkAnswer}
-use Rattle.entry_values.specs.Keys.{publicKeyRefusal, publicKeyIn, publicKeyWritten}
+use Rattle.refusal.specs.declared.Signing.{Signing}
+use Rattle.refusal.specs.declared.Signing.the-variants as signing
+use Rattle.refusal.specs.declared.Verdict.{Verdict}
+use Rattle.refusal.specs.declared.Verdict.the-variants as verdict
+use Rattle.refusal.specs.Answer.{setByte, setIn, isLong}
+use Rattle.signing.specs.Sign.{signAnswerIn, signWrittenIn, signAnswer, signWritten}
+use Rattle.checking.specs.Check.{checkAnswerIn, checkAnswer}
+use Rattle.values.specs.Keys.{publicKeyRefusal, publicKeyIn, publicKeyWritten}
 use Rattle.passign.specs.Known.{Known, KnownBoth}
-use Rattle.answers.proofs.Refusal.{passed, passed-not, equal-iff}
+use Rattle.refusal.proofs.Refusal.{passed, passed-not, equal-iff}
 
 -- a signing that ends in y, which is neither refusal of a lookup
-pub sign-entry : {y : Signing} → (signing.Refused 1 ≡ y → ⊥) → (signing.Refused 2 ≡ y → ⊥) → (key points : List ℕ) (masks : List ℤ) (message out : List ℕ)
-    → (signAnswer key points masks message out ≡ y) ↔ (Known key message × (signAnswerIn drawChallenge (setIn key) key points masks message out ≡ y))
+pub sign-entry : {y : Signing} → (signing.Refused 1 ≡ y → ⊥) → (signing.Refused 2 ≡ y → ⊥) → (key exponents : List ℕ) (masks : List ℤ) (message out : List ℕ)
+    → (signAnswer key exponents masks message out ≡ y) ↔ (Known key message × (signAnswerIn drawChallenge (setIn key) key exponents masks message out ≡ y))
 unfolding signAnswer
-sign-entry one two key points masks message out =
+sign-entry one two key exponents masks message out =
     let tests = passed (isLong message) one (passed (eqb (length key) 0) one (passed-not (isSet (setByte key)) two Iff·rfl)) in (
       λ e.
           let h = tests .0 e in (
@@ -41,12 +41,12 @@ sign-entry one two key points masks message out =
     )
 
 -- so signing in a known set is the signing defined over it
-module _ (key points : List ℕ) (masks : List ℤ) (message out : List ℕ) (k : Known key message) where
-  pub answer-entry : signAnswer key points masks message out ≡ signAnswerIn drawChallenge (setIn key) key points masks message out
+module _ (key exponents : List ℕ) (masks : List ℤ) (message out : List ℕ) (k : Known key message) where
+  pub answer-entry : signAnswer key exponents masks message out ≡ signAnswerIn drawChallenge (setIn key) key exponents masks message out
   unfolding signAnswer
   answer-entry = rw (le-ltb 65535 (length message) (k .message-size), ne-eqb (length key) 0 (k .key-some), lt-ltb (setByte key) 5 (k .set))
 
-  pub written-entry : signWritten key points masks message out ≡ signWrittenIn drawChallenge (setIn key) key points masks message out
+  pub written-entry : signWritten key exponents masks message out ≡ signWrittenIn drawChallenge (setIn key) key exponents masks message out
   unfolding signWritten
   written-entry = rw (le-ltb 65535 (length message) (k .message-size), ne-eqb (length key) 0 (k .key-some), lt-ltb (setByte key) 5 (k .set))
 
@@ -85,7 +85,7 @@ check-entry one two key message signature =
     )
 
 -- the public key of a call that is not refused
-pub public-key-entry : (key points out : List ℕ) → publicKeyRefusal key points out ≡ 0
-    → publicKeyWritten key points out ≡ publicKeyIn (setIn key) key points
+pub public-key-entry : (key exponents out : List ℕ) → publicKeyRefusal key exponents out ≡ 0
+    → publicKeyWritten key exponents out ≡ publicKeyIn (setIn key) key exponents
 unfolding publicKeyWritten
-public-key-entry key points out e = rw e
+public-key-entry key exponents out e = rw e

@@ -9,7 +9,7 @@ use lib.IntN.{ℤ}
 use Rattle.parameters.specs.declared.Params.{Params}
 use Rattle.encoding.specs.Encoding.{publicKey}
 use Rattle.scheme.specs.Scheme.{Drawer}
-use Rattle.entry_values.specs.Keys.{publicKeyIn}
+use Rattle.values.specs.Keys.{publicKeyIn}
 use Rattle.passign.specs.Hiding.{Encodable, Library, anyLibrary, ourLibrary, Made, paramsOf, Accepted, OtherKey, Same, SaysYes, maskFor, ExactlyOne}
 use Rattle.passign.proofs.ExactlyOne.{exactly-one}
 use Rattle.passign.proofs.Follows.{Follows, any-follows, our-library-follows}
@@ -19,7 +19,7 @@ use Rattle.passign.proofs.OtherMask.{same-iff}
 pub says-yes : {l : Library} {m : Made} → Follows l m → (other : List ℕ) → OtherKey l m other → SaysYes l m other
 unfolding publicKeyIn
 says-yes {l} {m} f other o = record {
-  answer = ap₂ (λ (s : ℕ) (vs : List ℕ). l .checks (publicKey s (m .call .points) vs) (m .call .message) (m .bytes)) (o .set) (o .same) ∙ f .checks;
+  answer = ap₂ (λ (s : ℕ) (vs : List ℕ). l .checks (publicKey s (m .call .exponents) vs) (m .call .message) (m .bytes)) (o .set) (o .same) ∙ f .checks;
 }
 
 -- any numbering of sets, with any way to draw

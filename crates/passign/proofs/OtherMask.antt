@@ -22,15 +22,15 @@ use Rattle.scheme.specs.Hiding.{Gives}
 use Rattle.scheme.proofs.Attempt.{attempt-iff}
 use Rattle.scheme.proofs.FirstPassing.{first-passing}
 use Rattle.scheme.proofs.Hiding as polynomials
-use Rattle.signer.specs.Signer.{offeredCount, masksOf, signatureOf, signedBy}
-use Rattle.signer.proofs.Masks.{masks-count, mask-at, mask-size}
-use Rattle.entry_sign.specs.Sign.{areMasks}
-use Rattle.entry_check.specs.Check.{signatureRead}
+use Rattle.signing.specs.Signer.{offeredCount, masksOf, signatureOf, signedBy}
+use Rattle.signing.proofs.OfferedMasks.{masks-count, mask-at, mask-size}
+use Rattle.signing.specs.Sign.{areMasks}
+use Rattle.checking.specs.Check.{signatureRead}
 use Rattle.passign.specs.Hiding.{Library, Made, paramsOf, signatureIn, OtherKey, Same, maskFor}
-use Rattle.entry_sign.proofs.Allowed.{sign-allowed}
-use Rattle.entry_sign.proofs.Masks.{mask-alone}
-use Rattle.layout.proofs.EncodedKey.{key-size, key-ternary}
-use Rattle.entry_sign.proofs.AcceptedSigning.{SignedAs, accepted-signing, signed-answer, signed-bytes, signing-of, allowed-of, size-of-key, commitment-of}
+use Rattle.signing.proofs.Allowed.{sign-allowed}
+use Rattle.signing.proofs.Masks.{mask-alone}
+use Rattle.encoding.proofs.EncodedKey.{key-size, key-ternary}
+use Rattle.signing.proofs.AcceptedSigning.{SignedAs, accepted-signing, signed-answer, signed-bytes, signing-of, allowed-of, size-of-key, commitment-of}
 use Rattle.passign.proofs.EncodableDraws.{encodable-draws}
 use Rattle.passign.proofs.AcceptedBytes.{meaning}
 use Rattle.passign.proofs.Follows.{Follows}
@@ -51,8 +51,8 @@ one-mask p y e =
 
 module _ {l : Library} {m : Made} (f : Follows l m) where
   -- the points and the message of both signings, their set, and the way to draw
-  abbrev points : List ℕ
-  points = m .call .points
+  abbrev exponents : List ℕ
+  exponents = m .call .exponents
 
   abbrev message : List ℕ
   message = m .call .message
@@ -63,30 +63,30 @@ module _ {l : Library} {m : Made} (f : Follows l m) where
   abbrev draw : Drawer
   draw = l .draw
 
-  module _ {r : Signed} (a : SignedAs draw p (m .call .key) points (m .call .masks) message (m .call .out) r (m .mask)) where
+  module _ {r : Signed} (a : SignedAs draw p (m .call .key) exponents (m .call .masks) message (m .call .out) r (m .mask)) where
     meant : signatureIn l m ≡ r .signature
     meant = ap (signatureRead p) (f .bytes) ∙ meaning a (f .encodable)
 
     module _ (other : List ℕ) (o : OtherKey l m other) (y : List ℤ) where
       -- the signing with the other key and the mask alone, on polynomials
-      alone : length y ≡ p .n → (s : Signed) → (signedBy draw p (keyOf other) points y message ≡ some s) ↔ (signing draw p points message 0 (keyOf other) (y ∷ []) ≡ some s)
+      alone : length y ≡ p .n → (s : Signed) → (signedBy draw p (keyOf other) exponents y message ≡ some s) ↔ (signing draw p exponents message 0 (keyOf other) (y ∷ []) ≡ some s)
       unfolding signedBy
       alone size s =
-          let some-coefficients : 0 < p .n = omega (arith, f .encodable .fitting .points) in
-          let is = ap (λ (ys : List (List ℤ)). signing draw p points message 0 (keyOf other) ys) (mask-alone p y some-coefficients size) in
+          let some-coefficients : 0 < p .n = omega (arith, f .encodable .fitting .exponents) in
+          let is = ap (λ (ys : List (List ℤ)). signing draw p exponents message 0 (keyOf other) ys) (mask-alone p y some-coefficients size) in
           (λ h. sym is ∙ h, λ h. is ∙ h)
 
-      same-of-gives : Gives draw p points message (keyOf other) (r .commitment) (r .signature) y → Same l m other y
+      same-of-gives : Gives draw p exponents message (keyOf other) (r .commitment) (r .signature) y → Same l m other y
       same-of-gives g =
           let k = allowed-of a in
-          let w = first-passing draw p points message (keyOf other) (y ∷ []) _ .0 (g .signs) in
-          let u : SignedAs draw p other points y message (m .call .out) (record { passedOver = 0; commitment = r .commitment; signature = r .signature }) 0 = record {
-            allowed = sign-allowed p other points y (length (m .call .out)) .1 (record {
+          let w = first-passing draw p exponents message (keyOf other) (y ∷ []) _ .0 (g .signs) in
+          let u : SignedAs draw p other exponents y message (m .call .out) (record { passedOver = 0; commitment = r .commitment; signature = r .signature }) 0 = record {
+            allowed = sign-allowed p other exponents y (length (m .call .out)) .1 (record {
               key-size = o .size;
-              points-size = k .points-size;
+              exponents-size = k .exponents-size;
               masks-size = one-mask p y (g .size);
               room-size = k .room-size;
-              points-rise = k .points-rise;
+              exponents-rise = k .exponents-rise;
               ternary = o .ternary;
               small = holds-true (within (p .k) y) (g .small);
             });
@@ -98,7 +98,7 @@ module _ {l : Library} {m : Made} (f : Follows l m) where
             small = g .small;
             commitment = w .commits ∙ sym (commitment-of a);
             challenge =
-                attempt-iff draw p points message (keyOf other) y (r .signature) .0 (w .passes) .challenge
+                attempt-iff draw p exponents message (keyOf other) y (r .signature) .0 (w .passes) .challenge
                 ∙ ap (λ (s : Signature). some (s .c)) (sym meant);
             answer = f .signs other o y ∙ signed-answer u;
             bytes =
@@ -107,8 +107,8 @@ module _ {l : Library} {m : Made} (f : Follows l m) where
           }
 
       -- the bytes decide the signature, since they are read back
-      module _ (s : Same l m other y) {t : Signed} (v : SignedAs draw p other points y message (m .call .out) t 0) where
-        signs-alone : signing draw p points message 0 (keyOf other) (y ∷ []) ≡ some t
+      module _ (s : Same l m other y) {t : Signed} (v : SignedAs draw p other exponents y message (m .call .out) t 0) where
+        signs-alone : signing draw p exponents message 0 (keyOf other) (y ∷ []) ≡ some t
         signs-alone = alone (s .size) t .0 (v .signs)
 
         same-signature : t .signature ≡ r .signature
@@ -116,32 +116,32 @@ module _ {l : Library} {m : Made} (f : Follows l m) where
 
         same-commitment : t .commitment ≡ r .commitment
         same-commitment =
-            sym (first-passing draw p points message (keyOf other) (y ∷ []) t .0 signs-alone .commits)
-            ∙ ap (λ (j : ℕ). evaluations p (getD (y ∷ []) j []) points) (v .place)
+            sym (first-passing draw p exponents message (keyOf other) (y ∷ []) t .0 signs-alone .commits)
+            ∙ ap (λ (j : ℕ). evaluations p (getD (y ∷ []) j []) exponents) (v .place)
             ∙ s .commitment ∙ commitment-of a
 
-        gives-of-same : Gives draw p points message (keyOf other) (r .commitment) (r .signature) y
+        gives-of-same : Gives draw p exponents message (keyOf other) (r .commitment) (r .signature) y
         gives-of-same = record { size = s .size; small = s .small; signs = signs-alone ∙ ap some (signed-is t (v .place) same-commitment same-signature) }
 
-      same-iff-gives : Same l m other y ↔ Gives draw p points message (keyOf other) (r .commitment) (r .signature) y
+      same-iff-gives : Same l m other y ↔ Gives draw p exponents message (keyOf other) (r .commitment) (r .signature) y
       same-iff-gives = (
-        λ s. gives-of-same s (accepted-signing draw p other points y message (m .call .out) (sym (f .signs other o y) ∙ s .answer) .1),
+        λ s. gives-of-same s (accepted-signing draw p other exponents y message (m .call .out) (sym (f .signs other o y) ∙ s .answer) .1),
         same-of-gives,
       )
 
       -- the law on polynomials
-      gives-iff : Gives draw p points message (keyOf other) (r .commitment) (r .signature) y ↔ (y ≡ maskFor l m other)
+      gives-iff : Gives draw p exponents message (keyOf other) (r .commitment) (r .signature) y ↔ (y ≡ maskFor l m other)
       gives-iff =
           let masks = m .call .masks in
           let sizes : (j : ℕ) → j < length (masksOf p masks) → length (getD (masksOf p masks) j []) ≡ p .n = λ j h.
           let h : j < offeredCount p masks = omega (arith, masks-count p masks) in
           ap length (mask-at p masks j h) ∙ mask-size p masks j h in
           rw meant
-          (polynomials.hiding-exactly draw (f .encodable .sound) (encodable-draws (f .encodable)) points message (keyOf (m .call .key)) (masksOf p masks) r (size-of-key a) sizes (signing-of a)
+          (polynomials.hiding-exactly draw (f .encodable .sound) (encodable-draws (f .encodable)) exponents message (keyOf (m .call .key)) (masksOf p masks) r (size-of-key a) sizes (signing-of a)
           (keyOf other) (key-size p other (o .size)) (key-ternary other (o .ternary)) (o .same) y)
 
   -- so it does exactly when it is z - other ⋆ c
   pub same-iff : (other : List ℕ) → OtherKey l m other → (y : List ℤ) → Same l m other y ↔ (y ≡ maskFor l m other)
   same-iff other o y =
-      let a = accepted-signing draw p (m .call .key) points (m .call .masks) message (m .call .out) (f .accepted) .1 in
+      let a = accepted-signing draw p (m .call .key) exponents (m .call .masks) message (m .call .out) (f .accepted) .1 in
       Iff·trans (same-iff-gives a other o y) (gives-iff a other o y)

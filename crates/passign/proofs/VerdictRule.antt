@@ -8,16 +8,16 @@ use Prim.Native.Nat.{ℕ}
 use lib.Dec.{eqb}
 use Rattle.parameters.specs.declared.Params.{Params}
 use Rattle.challenge.specs.Draw.{drawChallenge}
-use Rattle.encoding.specs.Encoding.{pointsOf, evaluationsOf}
+use Rattle.encoding.specs.Encoding.{exponentsOf, evaluationsOf}
 use Rattle.scheme.specs.Scheme.{Drawer}
 use Rattle.scheme.proofs.Verdict.{verdict-true, verdict-false}
-use Rattle.answers.specs.declared.Verdict.the-variants as answer
-use Rattle.answers.specs.Answer.{setIn}
-use Rattle.entry_check.specs.Check.{checkRefusalIn, signatureRead, checkVerdict, checkAnswerIn, checkAnswer}
+use Rattle.refusal.specs.declared.Verdict.the-variants as answer
+use Rattle.refusal.specs.Answer.{setIn}
+use Rattle.checking.specs.Check.{checkRefusalIn, signatureRead, checkVerdict, checkAnswerIn, checkAnswer}
 use Rattle.passign.specs.Known.{KnownBoth}
 use Rattle.passign.specs.VerdictRule.{Rule, CheckUnrefused}
-use Rattle.answers.proofs.Apart.{refused-not-yes, refused-not-no, yes-not-no, no-not-yes}
-use Rattle.answers.proofs.Refusal.{passed, chosen, end, equal-iff}
+use Rattle.refusal.proofs.Apart.{refused-not-yes, refused-not-no, yes-not-no, no-not-yes}
+use Rattle.refusal.proofs.Refusal.{passed, chosen, end, equal-iff}
 use Rattle.passign.proofs.Entry.{check-entry}
 
 module _ (draw : Drawer) (p : Params) (key message signature : List ℕ) where
@@ -25,7 +25,7 @@ module _ (draw : Drawer) (p : Params) (key message signature : List ℕ) where
   pub verdict-yes : (checkAnswerIn draw p key message signature ≡ answer.Yes) ↔ ((checkRefusalIn p key signature ≡ 0) × Rule draw p key message signature)
   unfolding checkAnswerIn checkVerdict
   verdict-yes =
-      let rule = verdict-true draw p (pointsOf p key) message (evaluationsOf p key) (signatureRead p signature) in
+      let rule = verdict-true draw p (exponentsOf p key) message (evaluationsOf p key) (signatureRead p signature) in
       Iff·trans
       (chosen (eqb (checkRefusalIn p key signature) 0) refused-not-yes
       (chosen (checkVerdict draw p key message signature) no-not-yes end))
@@ -34,7 +34,7 @@ module _ (draw : Drawer) (p : Params) (key message signature : List ℕ) where
   pub verdict-no : (checkAnswerIn draw p key message signature ≡ answer.No) ↔ ((checkRefusalIn p key signature ≡ 0) × (¬ Rule draw p key message signature))
   unfolding checkAnswerIn checkVerdict
   verdict-no =
-      let rule = verdict-false draw p (pointsOf p key) message (evaluationsOf p key) (signatureRead p signature) in
+      let rule = verdict-false draw p (exponentsOf p key) message (evaluationsOf p key) (signatureRead p signature) in
       Iff·trans
       (chosen (eqb (checkRefusalIn p key signature) 0) refused-not-no
       (passed (checkVerdict draw p key message signature) yes-not-no end))

@@ -8,8 +8,8 @@ use Rattle.polynomial.specs.Evaluation.{evaluation, evaluations}
 use Rattle.challenge.specs.Draw.{draw, kept, withValue, valueAt, signAt, placed}
 use Rattle.encoding.specs.Bytes.{bigEndian, encoded}
 use Rattle.encoding.specs.Encoding.{signatureBytes}
-use Rattle.signer.specs.Signer.{signatureOf}
-use Rattle.entry_values.specs.Draw.{drawRefusal}
+use Rattle.signing.specs.Signer.{signatureOf}
+use Rattle.values.specs.Draw.{drawRefusal}
 use Rattle.passign.specs.WorkedCases.{cases, holds}
 
 pub worked-cases : T (all holds cases)

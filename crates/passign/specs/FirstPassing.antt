@@ -11,19 +11,19 @@ use Rattle.parameters.specs.declared.Params.{Params}
 use Rattle.encoding.specs.Encoding.{keyOf}
 use Rattle.scheme.specs.Scheme.{Drawer, Signature, attempt}
 use Rattle.scheme.specs.FirstPassing.{failures}
-use Rattle.signer.specs.Signer.{offeredCount, masksOf, maskAt, signatureOf}
-use Rattle.answers.specs.Answer.{setByte, setIn}
-use Rattle.entry_sign.specs.Sign.{signRefusalIn}
+use Rattle.signing.specs.Signer.{offeredCount, masksOf, maskAt, signatureOf}
+use Rattle.refusal.specs.Answer.{setByte, setIn}
+use Rattle.signing.specs.Sign.{signRefusalIn}
 use Rattle.passign.specs.Known.{Known}
 
-module _ (draw : Drawer) (p : Params) (key points : List ℕ) (masks : List ℤ) (message : List ℕ) where
+module _ (draw : Drawer) (p : Params) (key exponents : List ℕ) (masks : List ℤ) (message : List ℕ) where
   -- what mask number i gives with the key
   abbrev pub attemptAt : ℕ → Option Signature
-  attemptAt i = attempt draw p points message (keyOf key) (maskAt p masks i)
+  attemptAt i = attempt draw p exponents message (keyOf key) (maskAt p masks i)
 
   -- the count of the first i masks that fail
   abbrev pub failuresBefore : ℕ → ℕ
-  failuresBefore i = failures draw p points message (keyOf key) (take i (masksOf p masks))
+  failuresBefore i = failures draw p exponents message (keyOf key) (take i (masksOf p masks))
 
   -- mask number i is offered and the first that passes, with the signature s
   pub record FirstMask (s : Signature) (i : ℕ) : Type 0 where
@@ -44,6 +44,6 @@ module _ (draw : Drawer) (p : Params) (key points : List ℕ) (masks : List ℤ)
     pub bytes : written ≡ signatureOf (setByte key) signature
 
 -- nothing refuses a call of the entry: the set and the set's own tests
-pub record SignUnrefused (key points : List ℕ) (masks : List ℤ) (message out : List ℕ) : Type 0 where
+pub record SignUnrefused (key exponents : List ℕ) (masks : List ℤ) (message out : List ℕ) : Type 0 where
   pub known : Known key message
-  pub allowed : signRefusalIn (setIn key) key points masks (length out) ≡ 0
+  pub allowed : signRefusalIn (setIn key) key exponents masks (length out) ≡ 0

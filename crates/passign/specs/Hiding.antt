@@ -20,14 +20,14 @@ use Rattle.polynomial.specs.Evaluation.{evaluations}
 use Rattle.challenge.specs.Draw.{drawChallenge, Sparse}
 use Rattle.encoding.specs.Encoding.{secretKeySize, isKey, keyOf, publicKey}
 use Rattle.scheme.specs.Scheme.{Drawer, Signature}
-use Rattle.signer.specs.Signer.{maskAt}
-use Rattle.answers.specs.declared.Signing.{Signing}
-use Rattle.answers.specs.declared.Signing.the-variants as signing
-use Rattle.answers.specs.declared.Verdict.{Verdict}
-use Rattle.answers.specs.declared.Verdict.the-variants as verdict
-use Rattle.answers.specs.Answer.{setByte}
-use Rattle.entry_sign.specs.Sign.{signAnswerIn, signWrittenIn, signAnswer, signWritten}
-use Rattle.entry_check.specs.Check.{signatureRead, checkAnswerIn, checkAnswer}
+use Rattle.signing.specs.Signer.{maskAt}
+use Rattle.refusal.specs.declared.Signing.{Signing}
+use Rattle.refusal.specs.declared.Signing.the-variants as signing
+use Rattle.refusal.specs.declared.Verdict.{Verdict}
+use Rattle.refusal.specs.declared.Verdict.the-variants as verdict
+use Rattle.refusal.specs.Answer.{setByte}
+use Rattle.signing.specs.Sign.{signAnswerIn, signWrittenIn, signAnswer, signWritten}
+use Rattle.checking.specs.Check.{signatureRead, checkAnswerIn, checkAnswer}
 
 -- what the theorems on bytes ask of a set and a way to draw: besides soundness that all has room in the encodings, and that a drawn
 -- challenge is sparse
@@ -41,14 +41,14 @@ pub record Encodable (draw : Drawer) (p : Params) : Type 0 where
 -- a call of its signing: encoded key, points, masks, message, and the buffer lent
 pub record Call : Type 0 where
   pub key : List ℕ
-  pub points : List ℕ
+  pub exponents : List ℕ
   pub masks : List ℤ
   pub message : List ℕ
   pub out : List ℕ
 
 -- the call with another key, and the mask y offered alone
 abbrev pub offeredAlone : Call → List ℕ → List ℤ → Call
-offeredAlone call other y = record { key = other; points = call .points; masks = y; message = call .message; out = call .out }
+offeredAlone call other y = record { key = other; exponents = call .exponents; masks = y; message = call .message; out = call .out }
 
 -- the parameter set of each set byte, the way to draw, what signing answers and what the buffer lent holds after it, and what the check answers to a
 -- public key, a message and a signature
@@ -61,10 +61,10 @@ pub record Library : Type 0 where
 
 -- signing in one parameter set
 abbrev pub signsIn : Drawer → Params → Call → Signing
-signsIn draw p call = signAnswerIn draw p (call .key) (call .points) (call .masks) (call .message) (call .out)
+signsIn draw p call = signAnswerIn draw p (call .key) (call .exponents) (call .masks) (call .message) (call .out)
 
 abbrev pub writesIn : Drawer → Params → Call → List ℕ
-writesIn draw p call = signWrittenIn draw p (call .key) (call .points) (call .masks) (call .message) (call .out)
+writesIn draw p call = signWrittenIn draw p (call .key) (call .exponents) (call .masks) (call .message) (call .out)
 
 -- any numbering of sets and any way to draw
 abbrev pub anyLibrary : (ℕ → Params) → Drawer → Library
@@ -83,8 +83,8 @@ ourLibrary =
     record {
       set = setOf;
       draw = drawChallenge;
-      signs = λ (call : Call). signAnswer (call .key) (call .points) (call .masks) (call .message) (call .out);
-      writes = λ (call : Call). signWritten (call .key) (call .points) (call .masks) (call .message) (call .out);
+      signs = λ (call : Call). signAnswer (call .key) (call .exponents) (call .masks) (call .message) (call .out);
+      writes = λ (call : Call). signWritten (call .key) (call .exponents) (call .masks) (call .message) (call .out);
       checks = checkAnswer;
     }
 
@@ -108,7 +108,7 @@ module _ (l : Library) (m : Made) where
 
   -- its commitment: that of the mask that signed
   abbrev pub commitmentOf : List ℕ
-  commitmentOf = evaluations paramsOf (maskAt paramsOf (m .call .masks) (m .mask)) (m .call .points)
+  commitmentOf = evaluations paramsOf (maskAt paramsOf (m .call .masks) (m .mask)) (m .call .exponents)
 
   -- the challenge and the point z that its bytes mean
   abbrev pub signatureIn : Signature
@@ -116,7 +116,7 @@ module _ (l : Library) (m : Made) where
 
   -- the public evaluations of an encoded key at its points
   abbrev pub publicEvaluations : List ℕ → List ℕ
-  publicEvaluations key = evaluations paramsOf (keyOf key) (m .call .points)
+  publicEvaluations key = evaluations paramsOf (keyOf key) (m .call .exponents)
 
   -- another ternary key of the same set, in its encoding: its public evaluations agree with those of the key that signed at each of the points
   pub record OtherKey (other : List ℕ) : Type 0 where
@@ -129,14 +129,14 @@ module _ (l : Library) (m : Made) where
   pub record Same (other : List ℕ) (y : List ℤ) : Type 0 where
     pub size : length y ≡ paramsOf .n
     pub small : T (within (paramsOf .k) y)
-    pub commitment : evaluations paramsOf y (m .call .points) ≡ commitmentOf
-    pub challenge : l .draw paramsOf (evaluations paramsOf y (m .call .points)) (m .call .message) ≡ some (signatureIn .c)
+    pub commitment : evaluations paramsOf y (m .call .exponents) ≡ commitmentOf
+    pub challenge : l .draw paramsOf (evaluations paramsOf y (m .call .exponents)) (m .call .message) ≡ some (signatureIn .c)
     pub answer : l .signs (offeredAlone (m .call) other y) ≡ signing.Signed 0
     pub bytes : l .writes (offeredAlone (m .call) other y) ≡ m .bytes
 
   -- the check, given the signature, the shared public evaluations and the same points and message, says yes
   pub record SaysYes (other : List ℕ) : Type 0 where
-    pub answer : l .checks (publicKey (setByte other) (m .call .points) (publicEvaluations other)) (m .call .message) (m .bytes) ≡ verdict.Yes
+    pub answer : l .checks (publicKey (setByte other) (m .call .exponents) (publicEvaluations other)) (m .call .message) (m .bytes) ≡ verdict.Yes
 
   -- the mask that does it: the signature's z minus the product ⋆ of the other key and the signature's challenge
   abbrev pub maskFor : List ℕ → List ℤ

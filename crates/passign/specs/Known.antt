@@ -5,7 +5,7 @@ use mathlib.Core.Path.{_≡_}
 use mathlib.Core.List.{List}
 use Prim.Native.Nat.{ℕ, _≤_, _<_}
 use lib.ListN.{length}
-use Rattle.answers.specs.Answer.{setByte}
+use Rattle.refusal.specs.Answer.{setByte}
 
 -- the message is not too long, the key is not empty, and its first byte is a set
 pub record Known (key message : List ℕ) : Type 0 where

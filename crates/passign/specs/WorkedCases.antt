@@ -9,12 +9,12 @@ use lib.ListN.{length, replicate}
 use Rattle.algebra.specs.Choice.{pick}
 use Rattle.algebra.specs.Integer.{within}
 use Rattle.parameters.specs.Sets.{setOf}
-use Rattle.polynomial.specs.Polynomial.{star, point}
+use Rattle.polynomial.specs.Polynomial.{star, zOf}
 use Rattle.polynomial.specs.Evaluation.{evaluations}
 use Rattle.challenge.specs.Draw.{draw}
 use Rattle.scheme.specs.Scheme.{equal, isDrawn}
-use Rattle.signer.specs.Signer.{signatureOf}
-use Rattle.entry_values.specs.Draw.{drawRefusal}
+use Rattle.signing.specs.Signer.{signatureOf}
+use Rattle.values.specs.Draw.{drawRefusal}
 
 -- a row: what is given, and what document 01 says comes of it
 pub data Case : Type 0 where
@@ -73,5 +73,5 @@ holds (draws xs c) = isDrawn (draw (setOf 0) xs) c
 holds (spent xs) = eqb (drawRefusal 0 xs (replicate (setOf 0 .n) (pos 0))) 11
 holds (evaluates f vs) = sameNumbers (evaluations (setOf 0) f (1 ∷ 2 ∷ [])) vs
 holds (multiplies f c r) = equal (star f c) r
-holds (reaches f c y z inside) = equal (point f c y) z && sameBool (within (setOf 0 .k - setOf 0 .b) z) inside
+holds (reaches f c y z inside) = equal (zOf f c y) z && sameBool (within (setOf 0 .k - setOf 0 .b) z) inside
 holds (encodes c z xs) = sameNumbers (signatureOf 0 (record { c = c; z = z })) xs

@@ -1,12 +1,16 @@
 // The PASSign library: evaluation, challenge drawing, signing, checking and the three encodings.
 // Every entry takes any input: what is not allowed is refused with document 01's number, and a refused call leaves every buffer as it was.
-pub use answers::Answer;
-pub use answers::Signing;
-pub use answers::Verdict;
-
-pub mod checking;
-pub mod codec;
-pub mod drawing;
-pub mod evaluation;
-pub mod keys;
-pub mod sign;
+pub use checking::check;
+pub use codec::read_public_key;
+pub use codec::read_secret_key;
+pub use codec::read_signature;
+pub use codec::write_public_key;
+pub use codec::write_secret_key;
+pub use codec::write_signature;
+pub use refusal::Answer;
+pub use refusal::Signing;
+pub use refusal::Verdict;
+pub use signing::sign;
+pub use values::drawing::draw;
+pub use values::evaluation::evaluate;
+pub use values::keys::public_key;

@@ -1,16 +1,16 @@
 // The library for C: each function is one call of it, its answer as a number. include/passign.h declares them.
 ghost use mathlib.Core.Path.{_≡_};
-ghost use Rattle.answers.specs.Answer.{numberOf, signingNumber, verdictNumber};
-ghost use Rattle.entry_check.specs.Check.{checkAnswer};
-ghost use Rattle.entry_values.specs.Draw.{drawRefusal, drawWritten};
-ghost use Rattle.entry_values.specs.Evaluate.{evaluateRefusal, evaluateWritten};
-ghost use Rattle.entry_values.specs.Keys.{publicKeyRefusal, publicKeyWritten};
-ghost use Rattle.entry_sign.specs.Sign.{signAnswer, signWritten};
+ghost use Rattle.refusal.specs.Answer.{numberOf, signingNumber, verdictNumber};
+ghost use Rattle.checking.specs.Check.{checkAnswer};
+ghost use Rattle.values.specs.Draw.{drawRefusal, drawWritten};
+ghost use Rattle.values.specs.Evaluate.{evaluateRefusal, evaluateWritten};
+ghost use Rattle.values.specs.Keys.{publicKeyRefusal, publicKeyWritten};
+ghost use Rattle.signing.specs.Sign.{signAnswer, signWritten};
 use passign::Answer;
 use passign::Signing;
 use passign::Verdict;
 
-pub mod codec;
+pub mod encodings;
 
 fn number(a: Answer) -> u32
     ensures { λ r. ⌜ r ≡ numberOf a ⌝ }
@@ -26,7 +26,7 @@ fn number(a: Answer) -> u32
 pub extern "C" fn passign_check(public_key: &[u8], message: &[u8], signature: &[u8]) -> u32
     ensures { λ r. ⌜ r ≡ verdictNumber (checkAnswer (now («public_key» .entry)) (now (message .entry)) (now (signature .entry))) ⌝ }
 {
-    let v = passign::checking::check(public_key, message, signature);
+    let v = passign::check(public_key, message, signature);
     match v {
         Verdict::Yes => 256,
         Verdict::No => 0,
@@ -46,7 +46,7 @@ pub extern "C" fn passign_sign(
     ensures answer { λ r. ⌜ r ≡ signingNumber (signAnswer (now («secret_key» .entry)) (now (points .entry)) (now (masks .entry)) (now (message .entry)) (now (signature .entry))) ⌝ }
     ensures written { λ r. ⌜ now (signature .exit) ≡ signWritten (now («secret_key» .entry)) (now (points .entry)) (now (masks .entry)) (now (message .entry)) (now (signature .entry)) ⌝ }
 {
-    let s = passign::sign::sign(secret_key, points, masks, message, signature);
+    let s = passign::sign(secret_key, points, masks, message, signature);
     match s {
         Signing::Signed(passed) => 256 + passed as u32,
         Signing::Refused(n) => n,
@@ -63,7 +63,7 @@ pub extern "C" fn passign_public_key(
     ensures answer { λ r. ⌜ r ≡ publicKeyRefusal (now («secret_key» .entry)) (now (points .entry)) (now («public_key» .entry)) ⌝ }
     ensures written { λ r. ⌜ now («public_key» .exit) ≡ publicKeyWritten (now («secret_key» .entry)) (now (points .entry)) (now («public_key» .entry)) ⌝ }
 {
-    number(passign::keys::public_key(secret_key, points, public_key))
+    number(passign::public_key(secret_key, points, public_key))
 }
 
 // 0, else the refusal number.
@@ -77,7 +77,7 @@ pub extern "C" fn passign_evaluate(
     ensures answer { λ r. ⌜ r ≡ evaluateRefusal set (now (coefficients .entry)) (now (points .entry)) (now (evaluations .entry)) ⌝ }
     ensures written { λ r. ⌜ now (evaluations .exit) ≡ evaluateWritten set (now (coefficients .entry)) (now (points .entry)) (now (evaluations .entry)) ⌝ }
 {
-    number(passign::evaluation::evaluate(set, coefficients, points, evaluations))
+    number(passign::evaluate(set, coefficients, points, evaluations))
 }
 
 // 0, else the refusal number.
@@ -86,5 +86,5 @@ pub extern "C" fn passign_draw(set: u8, pool: &[u8], challenge: &mut [i8]) -> u3
     ensures answer { λ r. ⌜ r ≡ drawRefusal set (now (pool .entry)) (now (challenge .entry)) ⌝ }
     ensures written { λ r. ⌜ now (challenge .exit) ≡ drawWritten set (now (pool .entry)) (now (challenge .entry)) ⌝ }
 {
-    number(passign::drawing::draw(set, pool, challenge))
+    number(passign::draw(set, pool, challenge))
 }

@@ -13,7 +13,7 @@ use Rattle.algebra.proofs.All.{all-more, all-drop, all-weaker}
 use Rattle.algebra.proofs.Test.{and-left, and-right, and-intro}
 use Rattle.algebra.proofs.Absolute.{abs-add, abs-neg, abs-mul}
 use Rattle.algebra.specs.Integer.{within}
-use Rattle.polynomial.specs.Polynomial.{coefficient, add, scale, neg, sub, push, lastOf, rotate, star, point, ternary, weight}
+use Rattle.polynomial.specs.Polynomial.{coefficient, add, scale, neg, sub, push, lastOf, rotate, star, zOf, ternary, weight}
 
 -- ---- the test, taken apart and put together
 within-head : (k : ℕ) (a : ℤ) (f : List ℤ) → T (within k (a ∷ f)) → natAbs a ≤ k
@@ -89,8 +89,8 @@ within-star f (a ∷ c) t =
     (within-star (rotate f) c (within-rotate 1 f t))
 
 -- a mask within k gives a point within k + b, where the challenge's weight is at most b
-pub point-within : (k b : ℕ) (f c y : List ℤ) → T (ternary f) → weight c ≤ b → T (within k y) → T (within (k + b) (point f c y))
-point-within k b f c y t l s = within-mono (omega arith) (point f c y) (within-add (weight c) k (star f c) y (within-star f c t) s)
+pub z-within : (k b : ℕ) (f c y : List ℤ) → T (ternary f) → weight c ≤ b → T (within k y) → T (within (k + b) (zOf f c y))
+z-within k b f c y t l s = within-mono (omega arith) (zOf f c y) (within-add (weight c) k (star f c) y (within-star f c t) s)
 
 -- ---- weights
 weight-ternary : (c : List ℤ) → T (ternary c) → weight c ≤ length c
@@ -103,6 +103,6 @@ weight-take (suc i) [] = zero-le
 weight-take (suc i) (a ∷ c) = omega (arith, weight-take i c)
 
 -- the point as a loop over the challenge sums it
-pub partial-within : (k i : ℕ) (f c y : List ℤ) → T (ternary f) → T (ternary c) → T (within k y) → T (within (k + length c) (point f (take i c) y))
+pub partial-within : (k i : ℕ) (f c y : List ℤ) → T (ternary f) → T (ternary c) → T (within k y) → T (within (k + length c) (zOf f (take i c) y))
 partial-within k i f c y s t u =
-    point-within k (length c) f (take i c) y s (le-trans (weight-take i c) (weight-ternary c t)) u
+    z-within k (length c) f (take i c) y s (le-trans (weight-take i c) (weight-ternary c t)) u

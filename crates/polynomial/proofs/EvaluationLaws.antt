@@ -18,7 +18,7 @@ use Rattle.algebra.proofs.Sum.{sum-same, sum-front}
 use Rattle.algebra.proofs.Congruence.{Cong, cong-refl, cong-eq, cong-sym, cong-trans, cong-add, cong-mul, cong-neg, cong-residue, residue-below, residue-eq, eq-residue}
 use Rattle.parameters.specs.declared.Params.{Params}
 use Rattle.parameters.specs.Sound.{Sound}
-use Rattle.polynomial.specs.Polynomial.{coefficient, add, neg, sub, star, point}
+use Rattle.polynomial.specs.Polynomial.{coefficient, add, neg, sub, star, zOf}
 use Rattle.polynomial.specs.Evaluation.{term, evaluation, evaluations}
 use Rattle.polynomial.proofs.Horner.{at, power, at-add, at-neg, at-star}
 
@@ -132,22 +132,22 @@ module _ {p : Params} (sound : Sound p) where
 
   -- the point's evaluation minus the product of the key's and the challenge's is the mask's: how a check gets the commitment
   pub evaluation-mask : (f c y : List ℤ) (j : ℕ) → length f ≡ p .n
-      → residue (pos (evaluation p (point f c y) j) -ℤ pos (evaluation p f j * evaluation p c j)) (p .q) ≡ evaluation p y j
+      → residue (pos (evaluation p (zOf f c y) j) -ℤ pos (evaluation p f j * evaluation p c j)) (p .q) ≡ evaluation p y j
   evaluation-mask f c y j e =
       let u = pos (evaluation p f j * evaluation p c j) in
-      residue-evaluation y j (pos (evaluation p (point f c y) j) -ℤ u)
+      residue-evaluation y j (pos (evaluation p (zOf f c y) j) -ℤ u)
       (cong-trans
       (cong-add (cong-trans (cong-add-evaluation (star f c) y j) (cong-add (cong-star-evaluation f c j e) (cong-refl (pos (evaluation p y j))))) (cong-refl (negℤ u)))
       (cong-trans (cong-eq (take-away (pos (evaluation p y j)) u)) (evaluation-cong y j)))
 
   -- where two keys have one evaluation, the point minus the other key's product has the mask's: the other key's own mask
   pub evaluation-other-mask : (f h c y : List ℤ) (j : ℕ) → length f ≡ p .n → length h ≡ p .n → evaluation p f j ≡ evaluation p h j
-      → evaluation p (sub (point f c y) (star h c)) j ≡ evaluation p y j
+      → evaluation p (sub (zOf f c y) (star h c)) j ≡ evaluation p y j
   evaluation-other-mask f h c y j e e′ same =
       let u = pos (evaluation p h j) *ℤ pos (evaluation p c j) in
-      sym (residue-own (sub (point f c y) (star h c)) j)
-      ∙ residue-evaluation y j (pos (evaluation p (sub (point f c y) (star h c)) j))
-      (cong-trans (cong-add-evaluation (point f c y) (neg (star h c)) j)
+      sym (residue-own (sub (zOf f c y) (star h c)) j)
+      ∙ residue-evaluation y j (pos (evaluation p (sub (zOf f c y) (star h c)) j))
+      (cong-trans (cong-add-evaluation (zOf f c y) (neg (star h c)) j)
       (cong-trans
       (cong-add
       (cong-trans (cong-add-evaluation (star f c) y j)

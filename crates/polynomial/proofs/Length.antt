@@ -7,7 +7,7 @@ use native.Mathlib.Nat.{le-of-suc-le-suc, not-suc-le-zero}
 use native.Mathlib.Omega.{arith}
 use lib.IntN.{ℤ, pos}
 use lib.ListN.{length}
-use Rattle.polynomial.specs.Polynomial.{add, scale, neg, sub, push, lastOf, rotate, star, point}
+use Rattle.polynomial.specs.Polynomial.{add, scale, neg, sub, push, lastOf, rotate, star, zOf}
 use Rattle.polynomial.specs.Rotation.{rotations}
 
 pub length-scale : (a : ℤ) (f : List ℤ) → length (scale a f) ≡ length f
@@ -53,5 +53,5 @@ length-star f (a ∷ c) =
     let s = length-scale a f in
     omega (arith, r, e, s, length-add-left (scale a f) (star (rotate f) c) (omega (arith, r, e, s)))
 
-pub length-point : (f c y : List ℤ) → length f ≤ length y → length (point f c y) ≡ length y
-length-point f c y l = length-add-right (star f c) y (omega (arith, length-star f c))
+pub length-z : (f c y : List ℤ) → length f ≤ length y → length (zOf f c y) ≡ length y
+length-z f c y l = length-add-right (star f c) y (omega (arith, length-star f c))

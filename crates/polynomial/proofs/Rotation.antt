@@ -12,9 +12,9 @@ use lib.ListN.{length, getD, take, drop, length-append, length-drop, take-append
 use lib.Seq.{ext-getD, getD-take, getD-drop, take-suc, length-take-le}
 use Rattle.algebra.proofs.List.{getD-after}
 use Rattle.algebra.proofs.Test.{lt-or-le}
-use Rattle.polynomial.specs.Polynomial.{coefficient, add, scale, rotate, star, point}
+use Rattle.polynomial.specs.Polynomial.{coefficient, add, scale, rotate, star, zOf}
 use Rattle.polynomial.specs.Rotation.{rotations}
-use Rattle.polynomial.proofs.Length.{length-scale, length-rotations, length-point}
+use Rattle.polynomial.proofs.Length.{length-scale, length-rotations, length-z}
 use Rattle.polynomial.proofs.Linear.{add-nil, add-comm, add-assoc, add-append, scale-append, add-none}
 use Rattle.polynomial.proofs.Coefficient.{coefficient-rotations}
 
@@ -82,20 +82,20 @@ star-append f (b ∷ c) a =
 
 -- ---- the point, after one turn more of the loop over the challenge
 module _ (f c y : List ℤ) (i : ℕ) (below : i < length c) where
-  pub point-next : add (point f (take i c) y) (scale (coefficient c i) (rotations i f)) ≡ point f (take (i + 1) c) y
-  point-next =
+  pub z-next : add (zOf f (take i c) y) (scale (coefficient c i) (rotations i f)) ≡ zOf f (take (i + 1) c) y
+  z-next =
       let a = coefficient c i in
       add-assoc (star f (take i c)) y (scale a (rotations i f))
       ∙ ap (λ (u : List ℤ). add (star f (take i c)) u) (add-comm y (scale a (rotations i f)))
       ∙ sym (add-assoc (star f (take i c)) (scale a (rotations i f)) y)
       ∙ ap (λ (n : ℕ). add (add (star f (take i c)) (scale a (rotations n f))) y) (sym (length-take-le i c (le-of-lt below)))
       ∙ ap (λ (u : List ℤ). add u y) (sym (star-append f (take i c) a))
-      ∙ ap (λ (u : List ℤ). point f u y) (sym (take-suc c i (pos 0) below))
-      ∙ ap (λ (n : ℕ). point f (take n c) y) (sym (add-one i))
+      ∙ ap (λ (u : List ℤ). zOf f u y) (sym (take-suc c i (pos 0) below))
+      ∙ ap (λ (n : ℕ). zOf f (take n c) y) (sym (add-one i))
 
   -- a coefficient 0 adds nothing
-  pub point-skip : length f ≤ length y → coefficient c i ≡ pos 0 → point f (take i c) y ≡ point f (take (i + 1) c) y
-  point-skip l e =
-      sym (add-none (point f (take i c) y) (rotations i f) (omega (arith, length-rotations i f, length-point f (take i c) y l)))
-      ∙ ap (λ (a : ℤ). add (point f (take i c) y) (scale a (rotations i f))) (sym e)
-      ∙ point-next
+  pub z-skip : length f ≤ length y → coefficient c i ≡ pos 0 → zOf f (take i c) y ≡ zOf f (take (i + 1) c) y
+  z-skip l e =
+      sym (add-none (zOf f (take i c) y) (rotations i f) (omega (arith, length-rotations i f, length-z f (take i c) y l)))
+      ∙ ap (λ (a : ℤ). add (zOf f (take i c) y) (scale a (rotations i f))) (sym e)
+      ∙ z-next

@@ -50,8 +50,8 @@ star f [] = []
 star f (a ∷ c) = add (scale a f) (star (rotate f) c)
 
 -- the point z = f ⋆ c + y
-abbrev pub point : List ℤ → List ℤ → List ℤ → List ℤ
-point f c y = add (star f c) y
+abbrev pub zOf : List ℤ → List ℤ → List ℤ → List ℤ
+zOf f c y = add (star f c) y
 
 -- a key has every coefficient in -1, 0, 1
 abbrev pub ternary : List ℤ → Bool

@@ -139,16 +139,16 @@ fn evaluation_of(p: Params, powers: &[u32], residues: &[u32], j: usize) -> u32
 }
 
 // The evaluations at the points of a polynomial whose coefficients are residues already.
-fn evaluations_of(p: Params, powers: &[u32], residues: &[u32], points: &[u16], out: &mut [u32])
+fn evaluations_of(p: Params, powers: &[u32], residues: &[u32], exponents: &[u16], out: &mut [u32])
     requires { ⌜ Evaluable p (now powers) (map pos (now residues)) ⌝ }
     requires { ⌜ Below (p .q) (now residues) ⌝ }
-    requires { ⌜ Below (p .n) (now points) ⌝ }
-    requires { ⌜ length (now out) ≡ length (now points) ⌝ }
-    ensures { λ _. ⌜ now (out .exit) ≡ evaluations p (map pos (now (residues .entry))) (now (points .entry)) ⌝ }
+    requires { ⌜ Below (p .n) (now exponents) ⌝ }
+    requires { ⌜ length (now out) ≡ length (now exponents) ⌝ }
+    ensures { λ _. ⌜ now (out .exit) ≡ evaluations p (map pos (now (residues .entry))) (now (exponents .entry)) ⌝ }
 {
     let mut i: usize = 0;
-    while i < points.len() {
-        out[i] = evaluation_of(p, powers, residues, points[i] as usize);
+    while i < exponents.len() {
+        out[i] = evaluation_of(p, powers, residues, exponents[i] as usize);
         i += 1;
     }
 }
@@ -166,14 +166,14 @@ pub fn evaluate_at(p: Params, powers: &[u32], coefficients: &[i16], j: usize) ->
 }
 
 // The evaluations at the points, in their order.
-pub fn evaluate(p: Params, powers: &[u32], coefficients: &[i16], points: &[u16], out: &mut [u32])
+pub fn evaluate(p: Params, powers: &[u32], coefficients: &[i16], exponents: &[u16], out: &mut [u32])
     requires { ⌜ Evaluable p (now powers) (now coefficients) ⌝ }
-    requires { ⌜ Below (p .n) (now points) ⌝ }
-    requires { ⌜ length (now out) ≡ length (now points) ⌝ }
-    ensures { λ _. ⌜ now (out .exit) ≡ evaluations p (now (coefficients .entry)) (now (points .entry)) ⌝ }
+    requires { ⌜ Below (p .n) (now exponents) ⌝ }
+    requires { ⌜ length (now out) ≡ length (now exponents) ⌝ }
+    ensures { λ _. ⌜ now (out .exit) ≡ evaluations p (now (coefficients .entry)) (now (exponents .entry)) ⌝ }
 {
     let q = p.q;
     let n = p.n;
     let residues = residues_of(coefficients, q);
-    evaluations_of(p, powers, &residues[..n], points, out);
+    evaluations_of(p, powers, &residues[..n], exponents, out);
 }

@@ -11,14 +11,14 @@ use lib.IntN.{ℤ}
 use Rattle.algebra.specs.Choice.{pick}
 use Rattle.algebra.specs.Integer.{within}
 use Rattle.parameters.specs.declared.Params.{Params}
-use Rattle.polynomial.specs.Polynomial.{point}
+use Rattle.polynomial.specs.Polynomial.{zOf}
 use Rattle.polynomial.specs.Evaluation.{evaluations}
 use Rattle.scheme.specs.Scheme.{Drawer, Signature, withChallenge, attempt}
 
 -- s is the signature by key f and mask y, where o is what was drawn
 pub record Passes (p : Params) (f y : List ℤ) (o : Option (List ℤ)) (s : Signature) : Type 0 where
   pub challenge : o ≡ some (s .c)
-  pub is-point : s .z ≡ point f (s .c) y
+  pub is-z : s .z ≡ zOf f (s .c) y
   pub range : T (within (p .k - p .b) (s .z))
 
 pick-out : (t : Bool) (s r : Signature) → pick t (some s) none ≡ some r → T t × (s ≡ r)
@@ -33,16 +33,16 @@ module _ (p : Params) (f y : List ℤ) where
   passes-out : (o : Option (List ℤ)) (s : Signature) → withChallenge p f y o ≡ some s → Passes p f y o s
   passes-out none s e = absurd (Option·none-ne-some s e)
   passes-out (some c) s e =
-      let r = pick-out (within (p .k - p .b) (point f c y)) (record { c = c; z = point f c y }) s e in
-      subst (λ (u : Signature). Passes p f y (some c) u) (r .1) (record { challenge = refl; is-point = refl; range = r .0 })
+      let r = pick-out (within (p .k - p .b) (zOf f c y)) (record { c = c; z = zOf f c y }) s e in
+      subst (λ (u : Signature). Passes p f y (some c) u) (r .1) (record { challenge = refl; is-z = refl; range = r .0 })
 
   passes-in : (o : Option (List ℤ)) (s : Signature) → Passes p f y o s → withChallenge p f y o ≡ some s
   passes-in o s a =
       ap (λ (v : Option (List ℤ)). withChallenge p f y v) (a .challenge)
-      ∙ ap (λ (z : List ℤ). pick (within (p .k - p .b) z) (some (record { c = s .c; z = z })) none) (sym (a .is-point))
+      ∙ ap (λ (z : List ℤ). pick (within (p .k - p .b) z) (some (record { c = s .c; z = z })) none) (sym (a .is-z))
       ∙ pick-in (within (p .k - p .b) (s .z)) s (a .range)
 
-pub attempt-iff : (draw : Drawer) (p : Params) (points message : List ℕ) (f y : List ℤ) (s : Signature)
-    → (attempt draw p points message f y ≡ some s) ↔ Passes p f y (draw p (evaluations p y points) message) s
+pub attempt-iff : (draw : Drawer) (p : Params) (exponents message : List ℕ) (f y : List ℤ) (s : Signature)
+    → (attempt draw p exponents message f y ≡ some s) ↔ Passes p f y (draw p (evaluations p y exponents) message) s
 unfolding attempt
-attempt-iff draw p points message f y s = (passes-out p f y _ s, passes-in p f y _ s)
+attempt-iff draw p exponents message f y s = (passes-out p f y _ s, passes-in p f y _ s)

@@ -7,20 +7,20 @@ use lib.IntN.{ℤ}
 use lib.ListN.{length}
 use Rattle.parameters.specs.declared.Params.{Params}
 use Rattle.parameters.specs.Sound.{Sound}
-use Rattle.polynomial.specs.Polynomial.{sub, star, point}
+use Rattle.polynomial.specs.Polynomial.{sub, star, zOf}
 use Rattle.polynomial.specs.Evaluation.{evaluations}
 use Rattle.polynomial.proofs.EvaluationLaws.{evaluation-mask, evaluation-other-mask}
 use Rattle.scheme.specs.Scheme.{recovered}
 
 module _ {p : Params} (sound : Sound p) (f c y : List ℤ) (size : length f ≡ p .n) where
-  pub recovered-point : (points : List ℕ) → recovered p (record { c = c; z = point f c y }) points (evaluations p f points) ≡ evaluations p y points
+  pub recovered-z : (exponents : List ℕ) → recovered p (record { c = c; z = zOf f c y }) exponents (evaluations p f exponents) ≡ evaluations p y exponents
   unfolding evaluations
-  recovered-point [] = refl
-  recovered-point (j ∷ js) = ap₂ _∷_ (evaluation-mask sound f c y j size) (recovered-point js)
+  recovered-z [] = refl
+  recovered-z (j ∷ js) = ap₂ _∷_ (evaluation-mask sound f c y j size) (recovered-z js)
 
   -- the mask with which another key h gives the same point, where the public evaluations are equal
-  pub evaluations-other-mask : (h : List ℤ) → length h ≡ p .n → (points : List ℕ) → evaluations p h points ≡ evaluations p f points
-      → evaluations p (sub (point f c y) (star h c)) points ≡ evaluations p y points
+  pub evaluations-other-mask : (h : List ℤ) → length h ≡ p .n → (exponents : List ℕ) → evaluations p h exponents ≡ evaluations p f exponents
+      → evaluations p (sub (zOf f c y) (star h c)) exponents ≡ evaluations p y exponents
   unfolding evaluations
   evaluations-other-mask h e [] same = refl
   evaluations-other-mask h e (j ∷ js) same =

@@ -13,20 +13,20 @@ use Rattle.parameters.specs.declared.Params.{Params}
 use Rattle.polynomial.specs.Evaluation.{evaluations}
 use Rattle.scheme.specs.Scheme.{Drawer, Signature, Signed, attempt, signing}
 
-module _ (draw : Drawer) (p : Params) (points message : List ℕ) (f : List ℤ) where
+module _ (draw : Drawer) (p : Params) (exponents message : List ℕ) (f : List ℤ) where
   -- the first n masks fail
   abbrev pub Fail : ℕ → List (List ℤ) → Type 0
-  Fail n ys = (i : ℕ) → i < n → attempt draw p points message f (getD ys i []) ≡ none
+  Fail n ys = (i : ℕ) → i < n → attempt draw p exponents message f (getD ys i []) ≡ none
 
   -- the mask that passes first
   pub record Found (ys : List (List ℤ)) : Type 0 where
     pub place : ℕ
     pub signature : Signature
     pub offered : place < length ys
-    pub passes : attempt draw p points message f (getD ys place []) ≡ some signature
+    pub passes : attempt draw p exponents message f (getD ys place []) ≡ some signature
     pub earlier : Fail place ys
 
-  fail-cons : (y : List ℤ) (ys : List (List ℤ)) (n : ℕ) → attempt draw p points message f y ≡ none → Fail n ys → Fail (suc n) (y ∷ ys)
+  fail-cons : (y : List ℤ) (ys : List (List ℤ)) (n : ℕ) → attempt draw p exponents message f y ≡ none → Fail n ys → Fail (suc n) (y ∷ ys)
   fail-cons y ys n e a zero h = e
   fail-cons y ys n e a (suc i) h = a i (le-of-suc-le-suc h)
 
@@ -34,7 +34,7 @@ module _ (draw : Drawer) (p : Params) (points message : List ℕ) (f : List ℤ)
   fail-tail y ys n a i h = a (suc i) (suc-le-suc h)
 
   -- a mask passes first, or all fail
-  search-cons : (y : List ℤ) (ys : List (List ℤ)) (o : Option Signature) → attempt draw p points message f y ≡ o
+  search-cons : (y : List ℤ) (ys : List (List ℤ)) (o : Option Signature) → attempt draw p exponents message f y ≡ o
       → Found ys ⊎ Fail (length ys) ys → Found (y ∷ ys) ⊎ Fail (suc (length ys)) (y ∷ ys)
   search-cons y ys (some s) e rest =
       inl (record { place = 0; signature = s; offered = suc-le-suc zero-le; passes = e; earlier = λ i h. absurd (not-suc-le-zero h) })
@@ -44,26 +44,26 @@ module _ (draw : Drawer) (p : Params) (points message : List ℕ) (f : List ℤ)
 
   pub first-or-none : (ys : List (List ℤ)) → Found ys ⊎ Fail (length ys) ys
   first-or-none [] = inr (λ i h. absurd (not-suc-le-zero h))
-  first-or-none (y ∷ ys) = search-cons y ys (attempt draw p points message f y) refl (first-or-none ys)
+  first-or-none (y ∷ ys) = search-cons y ys (attempt draw p exponents message f y) refl (first-or-none ys)
 
   -- the signing by mask y with signature s, n masks passed over
   abbrev signed : ℕ → List ℤ → Signature → Option Signed
-  signed n y s = some (record { passedOver = n; commitment = evaluations p y points; signature = s })
+  signed n y s = some (record { passedOver = n; commitment = evaluations p y exponents; signature = s })
 
   -- what signing gives in each case
-  signing-first : (n i : ℕ) (ys : List (List ℤ)) (s : Signature) → i < length ys → attempt draw p points message f (getD ys i []) ≡ some s → Fail i ys
-      → signing draw p points message n f ys ≡ signed (n + i) (getD ys i []) s
+  signing-first : (n i : ℕ) (ys : List (List ℤ)) (s : Signature) → i < length ys → attempt draw p exponents message f (getD ys i []) ≡ some s → Fail i ys
+      → signing draw p exponents message n f ys ≡ signed (n + i) (getD ys i []) s
   signing-first n i [] s h e a = absurd (not-suc-le-zero h)
   signing-first n zero (y ∷ ys) s h e a = rw e (ap (λ (m : ℕ). signed m y s) (omega arith))
   signing-first n (suc i) (y ∷ ys) s h e a =
       rw (a 0 (suc-le-suc zero-le))
       (signing-first (suc n) i ys s (le-of-suc-le-suc h) e (fail-tail y ys i a) ∙ ap (λ (m : ℕ). signed m (getD ys i []) s) (omega arith))
 
-  pub signing-found : (ys : List (List ℤ)) (w : Found ys) → signing draw p points message 0 f ys ≡ signed (w .place) (getD ys (w .place) []) (w .signature)
+  pub signing-found : (ys : List (List ℤ)) (w : Found ys) → signing draw p exponents message 0 f ys ≡ signed (w .place) (getD ys (w .place) []) (w .signature)
   signing-found ys w =
       signing-first 0 (w .place) ys (w .signature) (w .offered) (w .passes) (w .earlier)
       ∙ ap (λ (m : ℕ). signed m (getD ys (w .place) []) (w .signature)) (zero-add (w .place))
 
-  pub signing-none : (n : ℕ) (ys : List (List ℤ)) → Fail (length ys) ys → signing draw p points message n f ys ≡ none
+  pub signing-none : (n : ℕ) (ys : List (List ℤ)) → Fail (length ys) ys → signing draw p exponents message n f ys ≡ none
   signing-none n [] a = refl
   signing-none n (y ∷ ys) a = rw (a 0 (suc-le-suc zero-le)) (signing-none (suc n) ys (fail-tail y ys (length ys) a))

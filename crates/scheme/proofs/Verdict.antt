@@ -13,21 +13,21 @@ use Rattle.scheme.specs.Verdict.{Valid}
 use Rattle.scheme.proofs.Within.{within-iff}
 use Rattle.scheme.proofs.Equal.{isDrawn-iff}
 
-module _ (draw : Drawer) (p : Params) (points message vs : List ℕ) (s : Signature) where
-  pub verdict-true : (verdict draw p points message vs s ≡ true) ↔ Valid draw p points message vs s
+module _ (draw : Drawer) (p : Params) (exponents message vs : List ℕ) (s : Signature) where
+  pub verdict-true : (verdict draw p exponents message vs s ≡ true) ↔ Valid draw p exponents message vs s
   unfolding verdict
   verdict-true =
       let t = within (p .k - p .b) (s .z) in
-      let u = isDrawn (draw p (recovered p s points vs) message) (s .c) in (
+      let u = isDrawn (draw p (recovered p s exponents vs) message) (s .c) in (
         λ e. record {
           range = within-iff (p .k - p .b) (s .z) .0 (and-left t u (true-holds e));
-          challenge = isDrawn-iff (draw p (recovered p s points vs) message) (s .c) .0 (and-right t u (true-holds e));
+          challenge = isDrawn-iff (draw p (recovered p s exponents vs) message) (s .c) .0 (and-right t u (true-holds e));
         },
-        λ v. holds-true (t && u) (and-intro t u (within-iff (p .k - p .b) (s .z) .1 (v .range)) (isDrawn-iff (draw p (recovered p s points vs) message) (s .c) .1 (v .challenge))),
+        λ v. holds-true (t && u) (and-intro t u (within-iff (p .k - p .b) (s .z) .1 (v .range)) (isDrawn-iff (draw p (recovered p s exponents vs) message) (s .c) .1 (v .challenge))),
       )
 
-  pub verdict-false : (verdict draw p points message vs s ≡ false) ↔ ¬ Valid draw p points message vs s
+  pub verdict-false : (verdict draw p exponents message vs s ≡ false) ↔ ¬ Valid draw p exponents message vs s
   verdict-false = (
     λ e v. true≢false (sym (verdict-true .1 v) ∙ e),
-    λ n. by-test (verdict draw p points message vs s) (λ e. absurd (n (verdict-true .0 e))) (λ e. e),
+    λ n. by-test (verdict draw p exponents message vs s) (λ e. absurd (n (verdict-true .0 e))) (λ e. e),
   )

@@ -12,7 +12,7 @@ use lib.ListN.{length}
 use Rattle.algebra.specs.Choice.{pick}
 use Rattle.algebra.specs.Integer.{residue, within}
 use Rattle.parameters.specs.declared.Params.{Params}
-use Rattle.polynomial.specs.Polynomial.{point, ternary, weight}
+use Rattle.polynomial.specs.Polynomial.{zOf, ternary, weight}
 use Rattle.polynomial.specs.Evaluation.{evaluation, evaluations}
 
 -- a way to draw: of a set, a commitment and a message a challenge, or none where the pool is spent
@@ -32,7 +32,7 @@ pub record Signed : Type 0 where
 
 -- the signature with challenge c, key f and mask y, where all of z = f ⋆ c + y is in -(k-b)..(k-b)
 abbrev pub signatureInRange : Params → List ℤ → List ℤ → List ℤ → Option Signature
-signatureInRange p f y c = pick (within (p .k - p .b) (point f c y)) (some (record { c = c; z = point f c y })) none
+signatureInRange p f y c = pick (within (p .k - p .b) (zOf f c y)) (some (record { c = c; z = zOf f c y })) none
 
 -- a mask passes when its pool yields a challenge and z is in range
 abbrev pub withChallenge : Params → List ℤ → List ℤ → Option (List ℤ) → Option Signature
@@ -69,19 +69,19 @@ abbrev pub isDrawn : Option (List ℤ) → List ℤ → Bool
 isDrawn none c = false
 isDrawn (some d) c = equal d c
 
-module _ (draw : Drawer) (p : Params) (points message : List ℕ) where
+module _ (draw : Drawer) (p : Params) (exponents message : List ℕ) where
   -- what the mask y gives with the key f: a signature if it passes
   unfoldable pub attempt : List ℤ → List ℤ → Option Signature
-  attempt f y = withChallenge p f y (draw p (evaluations p y points) message)
+  attempt f y = withChallenge p f y (draw p (evaluations p y exponents) message)
 
   -- the masks in order, n passed over before them; the first that passes signs
   abbrev pub signing : ℕ → List ℤ → List (List ℤ) → Option Signed
   signing n f [] = none
-  signing n f (y ∷ ys) = orElse n (evaluations p y points) (attempt f y) (signing (suc n) f ys)
+  signing n f (y ∷ ys) = orElse n (evaluations p y exponents) (attempt f y) (signing (suc n) f ys)
 
   -- the check of a signature against public evaluations: z in range, and the challenge of the recovered commitment is the given one
   unfoldable pub verdict : List ℕ → Signature → Bool
-  verdict vs s = within (p .k - p .b) (s .z) && isDrawn (draw p (recovered p s points vs) message) (s .c)
+  verdict vs s = within (p .k - p .b) (s .z) && isDrawn (draw p (recovered p s exponents vs) message) (s .c)
 
 -- what theorems ask of a way to draw: a drawn challenge has N coefficients, each -1, 0 or 1, and absolute values summing to at most b
 pub record Draws (draw : Drawer) (p : Params) : Type 0 where

@@ -12,6 +12,6 @@ use Rattle.scheme.specs.Scheme.{Drawer, Signature, recovered}
 
 -- s is a signature of the message under the public evaluations vs: every coefficient of z is within k - b, and the challenge is the one drawn
 -- from the recovered commitment
-pub record Valid (draw : Drawer) (p : Params) (points message vs : List ℕ) (s : Signature) : Type 0 where
+pub record Valid (draw : Drawer) (p : Params) (exponents message vs : List ℕ) (s : Signature) : Type 0 where
   pub range : (i : ℕ) → i < length (s .z) → natAbs (coefficient (s .z) i) ≤ p .k - p .b
-  pub challenge : draw p (recovered p s points vs) message ≡ some (s .c)
+  pub challenge : draw p (recovered p s exponents vs) message ≡ some (s .c)

@@ -6,38 +6,38 @@ ghost use Prim.Native.Nat.{_+_, _*_};
 ghost use lib.ListN.{length, take};
 ghost use Rattle.parameters.specs.Sound.{Fitting};
 ghost use Rattle.encoding.specs.Encoding.{publicKeySize, publicKey};
-ghost use Rattle.entry_check.specs.Check.{checkAnswer};
+ghost use Rattle.checking.specs.Check.{checkAnswer};
 ghost use Rattle.session_rules.specs.Commands.{check};
-ghost use Rattle.session_state.specs.State.{hasPoints, chosenIn, heldIn};
+ghost use Rattle.session_state.specs.State.{hasExponents, chosenIn, heldIn};
 ghost use Rattle.session_state.specs.Ran.{Ran};
-use answers::Verdict;
-use layout::put_public_key;
+use encoding::layout::put_public_key;
 use parameters::Params;
+use refusal::Verdict;
 use session_rows::write_judged;
 use session_rows::write_plain;
 use session_state::Done;
 use session_state::Held;
 use session_state::bytes::with_set;
-use session_state::has_points;
+use session_state::has_exponents;
 
 // Whether points, public evaluations and message are held.
 fn can_check(p: Params, h: Held) -> bool
     requires { ⌜ Fitting p ⌝ }
-    ensures { λ r. ⌜ r ≡ hasPoints p (h .points) && (h .evaluations .held && h .message .held) ⌝ }
+    ensures { λ r. ⌜ r ≡ hasExponents p (h .exponents) && (h .evaluations .held && h .message .held) ⌝ }
 {
-    let points = h.points;
-    has_points(p, points) & (h.evaluations.held & h.message.held)
+    let exponents = h.exponents;
+    has_exponents(p, exponents) & (h.evaluations.held & h.message.held)
 }
 
 // The public key of the points and evaluations held, in front.
 fn key_held(p: Params, h: Held) -> [u8; 5761]
     requires { ⌜ Fitting p ⌝ }
-    ensures { λ r. ⌜ take (publicKeySize p) r ≡ publicKey (h .set) (take (p .t) (h .points .list)) (take (p .t) (h .evaluations .list)) ⌝ }
+    ensures { λ r. ⌜ take (publicKeySize p) r ≡ publicKey (h .set) (take (p .t) (h .exponents .list)) (take (p .t) (h .evaluations .list)) ⌝ }
 {
     let t = p.t;
     let size = 1 + 2 * t + 3 * t;
-    let points = h.points;
-    let list = points.list;
+    let exponents = h.exponents;
+    let list = exponents.list;
     let evaluations = h.evaluations;
     let values = evaluations.list;
     let mut key = [0u8; 5761];
@@ -49,7 +49,7 @@ fn key_held(p: Params, h: Held) -> [u8; 5761]
 fn judge(p: Params, h: Held, operand: &[u8]) -> Verdict
     requires { ⌜ Fitting p ⌝ }
     requires { ⌜ length (now operand) ≡ 2 * p .b + 2 * p .n ⌝ }
-    ensures { λ r. ⌜ r ≡ checkAnswer (publicKey (h .set) (take (p .t) (h .points .list)) (take (p .t) (h .evaluations .list))) (h .message .bytes) (h .set ∷ now (operand .entry)) ⌝ }
+    ensures { λ r. ⌜ r ≡ checkAnswer (publicKey (h .set) (take (p .t) (h .exponents .list)) (take (p .t) (h .evaluations .list))) (h .message .bytes) (h .set ∷ now (operand .entry)) ⌝ }
 {
     let t = p.t;
     let key_size = 1 + 2 * t + 3 * t;
@@ -58,7 +58,7 @@ fn judge(p: Params, h: Held, operand: &[u8]) -> Verdict
     let text = message.bytes;
     let key = key_held(p, h);
     let signature = with_set(h.set, operand);
-    entry_check::check(&key[..key_size], &text, &signature[..size])
+    checking::check(&key[..key_size], &text, &signature[..size])
 }
 
 // 07, with its row. Whatever it says, what is held stays.

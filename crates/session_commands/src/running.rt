@@ -14,9 +14,9 @@ use session_checking::check_held;
 use session_loading::choose_set;
 use session_loading::key::load_key;
 use session_loading::load_evaluations;
+use session_loading::load_exponents;
 use session_loading::load_mask;
 use session_loading::load_message;
-use session_loading::load_points;
 use session_rows::write_plain;
 use session_signing::sign_held;
 use session_state::Done;
@@ -62,7 +62,7 @@ fn load(p: Params, h: Held, byte: u8, operand: &[u8]) -> Done
     ensures set { λ r. ⌜ r .held .set ≡ h .set ⌝ }
 {
     if byte == 2 {
-        return load_points(p, h, operand);
+        return load_exponents(p, h, operand);
     }
     if byte == 4 {
         return load_mask(p, h, operand);

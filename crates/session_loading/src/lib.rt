@@ -3,23 +3,23 @@ ghost use mathlib.Core.Path.{_≡_};
 ghost use Prim.Native.Nat.{_*_};
 ghost use lib.ListN.{length};
 ghost use Rattle.parameters.specs.Sound.{Fitting};
-ghost use Rattle.session_rules.specs.Commands.{nothing, chooseSet, loadPoints, loadMask, loadMessage, loadEvaluations};
+ghost use Rattle.session_rules.specs.Commands.{nothing, chooseSet, loadExponents, loadMask, loadMessage, loadEvaluations};
 ghost use Rattle.session_state.specs.State.{chosenIn, heldIn, heldOf};
 ghost use Rattle.session_state.specs.Ran.{doneIn, doneOf};
 use encoding::numbers::read_triples;
 use encoding::numbers::read_words;
 use encoding::public_key::are_below;
-use encoding::public_key::are_points;
+use encoding::public_key::are_exponents;
 use encoding::signed_numbers::read_signed_words;
 use parameters::Params;
-use polynomial::point::in_range16;
+use polynomial::range::in_range16;
 use session_state::Done;
 use session_state::Evaluations;
+use session_state::Exponents;
 use session_state::Held;
 use session_state::Message;
-use session_state::Points;
 use session_state::bytes::copy;
-use session_state::has_points;
+use session_state::has_exponents;
 use session_state::mask_list::with_mask;
 use session_state::no_evaluations;
 use session_state::no_key;
@@ -44,27 +44,27 @@ pub fn choose_set(h: Held, operand: &[u8]) -> Done
 }
 
 // 02. Forgets key and public evaluations.
-pub fn load_points(p: Params, h: Held, operand: &[u8]) -> Done
+pub fn load_exponents(p: Params, h: Held, operand: &[u8]) -> Done
     requires { ⌜ Fitting p ⌝ }
     requires { ⌜ length (now operand) ≡ 2 * p .t ⌝ }
-    ensures done { λ r. ⌜ doneIn p r nothing ≡ loadPoints (chosenIn p (h .set)) (heldIn p h) (now (operand .entry)) ⌝ }
+    ensures done { λ r. ⌜ doneIn p r nothing ≡ loadExponents (chosenIn p (h .set)) (heldIn p h) (now (operand .entry)) ⌝ }
     ensures set { λ r. ⌜ r .held .set ≡ h .set ⌝ }
 {
     let n = p.n;
     let t = p.t;
     let mut list = [0u16; 1152];
     read_words(operand, &mut list[..t]);
-    if !are_points(&list[..t], n) {
+    if !are_exponents(&list[..t], n) {
         return Done { number: 4, held: h };
     }
-    let points = Points {
+    let exponents = Exponents {
         held: true,
         list: list,
     };
     let forgotten = no_key();
     let evaluations = no_evaluations();
     let mut next = h;
-    next.points = points;
+    next.exponents = exponents;
     next.key = forgotten;
     next.evaluations = evaluations;
     Done {
@@ -127,8 +127,8 @@ pub fn load_evaluations(p: Params, h: Held, operand: &[u8]) -> Done
     ensures set { λ r. ⌜ r .held .set ≡ h .set ⌝ }
 {
     let t = p.t;
-    let points = h.points;
-    if !has_points(p, points) {
+    let exponents = h.exponents;
+    if !has_exponents(p, exponents) {
         return Done {
             number: 10,
             held: h,

@@ -10,16 +10,16 @@ use lib.ListN.{length}
 use Rattle.algebra.specs.All.{all}
 use Rattle.algebra.specs.Integer.{within}
 use Rattle.parameters.specs.declared.Params.{Params}
-use Rattle.encoding.specs.Encoding.{isKeyByte, arePoints, areEvaluations}
+use Rattle.encoding.specs.Encoding.{isKeyByte, areExponents, areEvaluations}
 use Rattle.session_rules.specs.Held.{Chosen, Held}
 use Rattle.session_rules.specs.HeldIsRead.{Available, Holding}
 
 abbrev pub isMask : Params → List ℤ → Bool
 isMask p y = eqb (length y) (p .n) && within (p .k) y
 
-pub record PointsFit (p : Params) (l : List ℕ) : Type 0 where
+pub record ExponentsFit (p : Params) (l : List ℕ) : Type 0 where
   pub size : length l ≡ p .t
-  pub rise : arePoints p l ≡ true
+  pub rise : areExponents p l ≡ true
 
 pub record KeyFits (p : Params) (l : List ℕ) : Type 0 where
   pub size : length l ≡ p .n
@@ -32,7 +32,7 @@ pub record EvaluationsFit (p : Params) (l : List ℕ) : Type 0 where
 -- everything held, in the set p
 pub record Fits (p : Params) (a : Available) (h : Held) : Type 0 where
   pub set : Holding (λ (c : Chosen). c .byte < 5) (a .set) (h .set)
-  pub points : Holding (PointsFit p) (a .points) (h .points)
+  pub exponents : Holding (ExponentsFit p) (a .exponents) (h .exponents)
   pub key : Holding (KeyFits p) (a .key) (h .key)
   pub evaluations : Holding (EvaluationsFit p) (a .evaluations) (h .evaluations)
   pub message : Holding (λ (l : List ℕ). length l ≡ 64) (a .message) (h .message)

@@ -25,19 +25,19 @@ use Rattle.challenge.specs.Draw.{drawChallenge}
 use Rattle.encoding.specs.Challenge.{areEntries}
 use Rattle.encoding.specs.Encoding.{isKey, keyOf, publicKeySize, publicKey, PublicKeyRange, signatureSize, entriesRead}
 use Rattle.encoding.proofs.Range.{public-key-range}
-use Rattle.encoding.proofs.OneEncoding.{public-key-length, points-read-back, evaluations-read-back}
+use Rattle.encoding.proofs.OneEncoding.{public-key-length, exponents-read-back, evaluations-read-back}
 use Rattle.scheme.specs.Scheme.{Signed}
-use Rattle.signer.specs.Signer.{maskAt, signedBy}
-use Rattle.answers.specs.declared.Signing.the-variants as signing
-use Rattle.answers.specs.declared.Verdict.the-variants as verdict
-use Rattle.entry_sign.specs.Sign.{areMasks, signRefusalIn, signedAnswer, signAnswerIn, signAnswer}
-use Rattle.entry_check.specs.Check.{checkRefusalIn, checkVerdict, checkAnswerIn, checkAnswer}
-use Rattle.answers.proofs.Apart.{refused-same, refused-not-signed, refused-not-yes, refused-not-no}
-use Rattle.entry_sign.proofs.Allowed.{sign-allowed}
+use Rattle.signing.specs.Signer.{maskAt, signedBy}
+use Rattle.refusal.specs.declared.Signing.the-variants as signing
+use Rattle.refusal.specs.declared.Verdict.the-variants as verdict
+use Rattle.signing.specs.Sign.{areMasks, signRefusalIn, signedAnswer, signAnswerIn, signAnswer}
+use Rattle.checking.specs.Check.{checkRefusalIn, checkVerdict, checkAnswerIn, checkAnswer}
+use Rattle.refusal.proofs.Apart.{refused-same, refused-not-signed, refused-not-yes, refused-not-no}
+use Rattle.signing.proofs.Allowed.{sign-allowed}
 use Rattle.passign.specs.Known.{Known}
 use Rattle.passign.proofs.Entry.{answer-entry}
 use Rattle.session_rules.specs.Commands.{signatureRoom}
-use Rattle.session_rules.proofs.Fits.{isMask, PointsFit, KeyFits, EvaluationsFit}
+use Rattle.session_rules.proofs.Fits.{isMask, ExponentsFit, KeyFits, EvaluationsFit}
 
 -- ---- masks one after the other
 
@@ -92,52 +92,52 @@ module _ (s : ℕ) (known : s < 5) where
   abbrev p : Params
   p = setOf s
 
-  module _ (key points : List ℕ) (masks : List (List ℤ)) (message : List ℕ)
-      (k : KeyFits p key) (j : PointsFit p points) (t : T (all (isMask p) masks)) (few : length masks ≤ 8) (m : length message ≡ 64) where
+  module _ (key exponents : List ℕ) (masks : List (List ℤ)) (message : List ℕ)
+      (k : KeyFits p key) (j : ExponentsFit p exponents) (t : T (all (isMask p) masks)) (few : length masks ≤ 8) (m : length message ≡ 64) where
     known-key : Known (s ∷ key) message
     known-key = record { message-size = omega arith; key-some = λ e. omega arith; set = known }
 
-    allowed : signRefusalIn p (s ∷ key) points (flatten masks) (length (signatureRoom p)) ≡ 0
+    allowed : signRefusalIn p (s ∷ key) exponents (flatten masks) (length (signatureRoom p)) ≡ 0
     unfolding isKey
-    allowed = sign-allowed p (s ∷ key) points (flatten masks) (length (signatureRoom p)) .1 (record {
+    allowed = sign-allowed p (s ∷ key) exponents (flatten masks) (length (signatureRoom p)) .1 (record {
       key-size = omega (arith, k .size);
-      points-size = j .size;
+      exponents-size = j .size;
       masks-size = masks-flattened p masks t few;
       room-size = length-replicate (signatureSize p) 0;
-      points-rise = j .rise;
+      exponents-rise = j .rise;
       ternary = k .bytes;
       small = holds-true (within (p .k) (flatten masks)) (flatten-within p masks t);
     })
 
-    pub sign-refused : (n : ℕ) → signAnswer (s ∷ key) points (flatten masks) message (signatureRoom p) ≡ signing.Refused n → n ≡ 9
+    pub sign-refused : (n : ℕ) → signAnswer (s ∷ key) exponents (flatten masks) message (signatureRoom p) ≡ signing.Refused n → n ≡ 9
     unfolding signAnswerIn
     sign-refused n e =
-        signed-or-nine (signedBy drawChallenge p (keyOf (s ∷ key)) points (flatten masks) message) n (rw allowed at (sym (answer-entry (s ∷ key) points (flatten masks) message (signatureRoom p) known-key) ∙ e))
+        signed-or-nine (signedBy drawChallenge p (keyOf (s ∷ key)) exponents (flatten masks) message) n (rw allowed at (sym (answer-entry (s ∷ key) exponents (flatten masks) message (signatureRoom p) known-key) ∙ e))
 
   -- ---- the check
 
-  module _ (points vs message op : List ℕ) (j : PointsFit p points) (v : EvaluationsFit p vs) (m : length message ≡ 64)
+  module _ (exponents vs message op : List ℕ) (j : ExponentsFit p exponents) (v : EvaluationsFit p vs) (m : length message ≡ 64)
       (size : length op ≡ 2 * p .b + 2 * p .n) where
-    range : PublicKeyRange p points vs
-    range = public-key-range (set-fitting s known) points vs (j .size) (j .rise) (v .size) (v .below)
+    range : PublicKeyRange p exponents vs
+    range = public-key-range (set-fitting s known) exponents vs (j .size) (j .rise) (v .size) (v .below)
 
-    refusal : checkRefusalIn p (publicKey s points vs) (s ∷ op) ≡ pick (not (areEntries (p .n) (entriesRead p (s ∷ op)))) 12 0
+    refusal : checkRefusalIn p (publicKey s exponents vs) (s ∷ op) ≡ pick (not (areEntries (p .n) (entriesRead p (s ∷ op)))) 12 0
     unfolding checkRefusalIn
     refusal =
         rw (
-          eq-eqb (length (publicKey s points vs)) (publicKeySize p) (public-key-length p s points vs range),
+          eq-eqb (length (publicKey s exponents vs)) (publicKeySize p) (public-key-length p s exponents vs range),
           eq-eqb (suc (length op)) (signatureSize p) (omega arith),
-          points-read-back p s points vs range,
-          evaluations-read-back p s points vs range,
+          exponents-read-back p s exponents vs range,
+          evaluations-read-back p s exponents vs range,
           j .rise,
           v .below,
         )
 
-    check-answer : checkAnswer (publicKey s points vs) message (s ∷ op) ≡ checkAnswerIn drawChallenge p (publicKey s points vs) message (s ∷ op)
+    check-answer : checkAnswer (publicKey s exponents vs) message (s ∷ op) ≡ checkAnswerIn drawChallenge p (publicKey s exponents vs) message (s ∷ op)
     unfolding checkAnswer publicKey
     check-answer = rw (
       le-ltb 65535 (length message) (omega arith),
-      ne-eqb (length (publicKey s points vs)) 0 (λ e. omega arith),
+      ne-eqb (length (publicKey s exponents vs)) 0 (λ e. omega arith),
       ne-eqb (length (s ∷ op)) 0 (λ e. omega arith),
       lt-ltb s 5 known,
       eq-eqb s s refl,
@@ -149,8 +149,8 @@ module _ (s : ℕ) (known : s < 5) where
     answered true false n e = absurd (refused-not-no (sym e))
     answered false says n e = let f : 12 ≡ n = cc in sym f
 
-    pub check-refused : (n : ℕ) → checkAnswer (publicKey s points vs) message (s ∷ op) ≡ verdict.Refused n → n ≡ 12
+    pub check-refused : (n : ℕ) → checkAnswer (publicKey s exponents vs) message (s ∷ op) ≡ verdict.Refused n → n ≡ 12
     unfolding checkAnswerIn
     check-refused n e =
-        answered (areEntries (p .n) (entriesRead p (s ∷ op))) (checkVerdict drawChallenge p (publicKey s points vs) message (s ∷ op)) n
+        answered (areEntries (p .n) (entriesRead p (s ∷ op))) (checkVerdict drawChallenge p (publicKey s exponents vs) message (s ∷ op)) n
         (rw refusal at (sym check-answer ∙ e))

@@ -5,7 +5,7 @@ use mathlib.Core.Path.{_≡_}
 use mathlib.Core.List.{List, []}
 use Prim.Native.Nat.{ℕ, _<_}
 use lib.ListN.{length, getD}
-use Rattle.signer.specs.Signer.{maskAt}
+use Rattle.signing.specs.Signer.{maskAt}
 use Rattle.session_rules.specs.Play.{opened}
 use Rattle.session_rules.specs.Plays.{events, noMaterial, paramsIn, callWith}
 use Rattle.session_rules.specs.HeldIsRead.{materialRead, noneAvailable}

@@ -22,17 +22,17 @@ use Rattle.parameters.specs.Sound.{Fitting}
 use Rattle.parameters.proofs.Sound.{set-sound, set-fitting}
 use Rattle.polynomial.proofs.EvaluationLaws.{length-evaluations, evaluations-below}
 use Rattle.encoding.specs.Bytes.{numbers, signed16}
-use Rattle.encoding.specs.Encoding.{isKeyByte, keyCoefficient, arePoints, areEvaluations, publicKey}
+use Rattle.encoding.specs.Encoding.{isKeyByte, keyCoefficient, areExponents, areEvaluations, publicKey}
 use Rattle.encoding.proofs.Parts.{length-numbers}
-use Rattle.answers.specs.declared.Signing.{Signing}
-use Rattle.answers.specs.declared.Signing.the-variants as signing
-use Rattle.answers.specs.declared.Verdict.{Verdict}
-use Rattle.answers.specs.declared.Verdict.the-variants as verdict
-use Rattle.entry_sign.specs.Sign.{signAnswer, signWritten}
-use Rattle.entry_check.specs.Check.{checkAnswer}
+use Rattle.refusal.specs.declared.Signing.{Signing}
+use Rattle.refusal.specs.declared.Signing.the-variants as signing
+use Rattle.refusal.specs.declared.Verdict.{Verdict}
+use Rattle.refusal.specs.declared.Verdict.the-variants as verdict
+use Rattle.signing.specs.Sign.{signAnswer, signWritten}
+use Rattle.checking.specs.Check.{checkAnswer}
 use Rattle.passign.specs.Hiding.{ourLibrary}
 use Rattle.session_rules.specs.Held.{Chosen, Held, withMasks}
-use Rattle.session_rules.specs.Commands.{Payload, nothing, signed, Done, accepted, refused, needing, chooseSet, keyEvaluations, maskOf, signatureRoom, loadPoints, loadKey, loadMask, loadMessage, afterSigning, sign, afterCheck, check, loadEvaluations, needsSet, operandSizeIn, operandSize, commandIn, command}
+use Rattle.session_rules.specs.Commands.{Payload, nothing, signed, Done, accepted, refused, needing, chooseSet, keyEvaluations, maskOf, signatureRoom, loadExponents, loadKey, loadMask, loadMessage, afterSigning, sign, afterCheck, check, loadEvaluations, needsSet, operandSizeIn, operandSize, commandIn, command}
 use Rattle.session_rules.specs.Rows.{decimal, hex, spaced, payloadText}
 use Rattle.session_rules.specs.Play.{lacksSet}
 use Rattle.session_rules.specs.Plays.{Event, Material, passedOver, paramsIn, withMasksIn, callWith, firstPassing, withAccepted, withCommand}
@@ -82,12 +82,12 @@ needing-by P (holds {a = a} q) (holds r) f g = g a q r
 -- ---- what is held and read with other masks
 
 reads-masks : {t : Material} {av : Available} {h : Held} → HeldIsRead t av h → {ys zs : List (List ℤ)} → ys ≡ zs → HeldIsRead (withMasksIn t zs) av (withMasks ys h)
-reads-masks w e = record { set = w .set; points = w .points; key = w .key; evaluations = w .evaluations; message = w .message; masks = e }
+reads-masks w e = record { set = w .set; exponents = w .exponents; key = w .key; evaluations = w .evaluations; message = w .message; masks = e }
 
 fits-masks : {p : Params} {av : Available} {h : Held} → Fits p av h → (ys : List (List ℤ)) → T (all (isMask p) ys) → length ys ≤ 8 → Fits p av (withMasks ys h)
 fits-masks w ys m few = record {
   set = w .set;
-  points = w .points;
+  exponents = w .exponents;
   key = w .key;
   evaluations = w .evaluations;
   message = w .message;
@@ -134,10 +134,10 @@ module _ (t : Material) (av : Available) (h : Held) (reads : HeldIsRead t av h) 
   does-set =
       pick-by (Does t av h 1 op) (not (isSet (getD op 0 0))) (λ e. left 1 2 refl refl refl)
       (λ e. taken 1 (λ s. omega arith) (omega arith)
-      (record { set = holds refl; points = absent; key = absent; evaluations = absent; message = absent; masks = refl })
+      (record { set = holds refl; exponents = absent; key = absent; evaluations = absent; message = absent; masks = refl })
       (record {
         set = holds (ltb-true (getD op 0 0) 5 (not-false (isSet (getD op 0 0)) e));
-        points = absent;
+        exponents = absent;
         key = absent;
         evaluations = absent;
         message = absent;
@@ -156,15 +156,15 @@ module _ (t : Material) (av : Available) (h : Held) (reads : HeldIsRead t av h) 
     fitting : Fitting p
     fitting = set-fitting (t .set) known
 
-    does-points : Does t av h 2 op (loadPoints c h op)
-    unfolding loadPoints withCommand withAccepted availableWith availableWithAccepted
-    does-points =
-        pick-by (Does t av h 2 op) (not (arePoints p (numbers 2 (p .t) op))) (λ e. left 2 4 refl refl refl)
+    does-exponents : Does t av h 2 op (loadExponents c h op)
+    unfolding loadExponents withCommand withAccepted availableWith availableWithAccepted
+    does-exponents =
+        pick-by (Does t av h 2 op) (not (areExponents p (numbers 2 (p .t) op))) (λ e. left 2 4 refl refl refl)
         (λ e. taken 2 (λ s. omega arith) (omega arith)
-        (record { set = reads .set; points = holds refl; key = absent; evaluations = absent; message = reads .message; masks = reads .masks })
+        (record { set = reads .set; exponents = holds refl; key = absent; evaluations = absent; message = reads .message; masks = reads .masks })
         (record {
           set = fits .set;
-          points = holds (record { size = length-numbers 2 (p .t) op; rise = not-false (arePoints p (numbers 2 (p .t) op)) e });
+          exponents = holds (record { size = length-numbers 2 (p .t) op; rise = not-false (areExponents p (numbers 2 (p .t) op)) e });
           key = absent;
           evaluations = absent;
           message = fits .message;
@@ -173,19 +173,19 @@ module _ (t : Material) (av : Available) (h : Held) (reads : HeldIsRead t av h) 
         }))
 
     -- the evaluations of a key are below q
-    allowed : (points : List ℕ) → T (areEvaluations p (keyEvaluations p points op))
-    allowed points = evaluations-below (set-sound (t .set) known) (map keyCoefficient op) points
+    allowed : (exponents : List ℕ) → T (areEvaluations p (keyEvaluations p exponents op))
+    allowed exponents = evaluations-below (set-sound (t .set) known) (map keyCoefficient op) exponents
 
     does-key : length op ≡ p .n → Does t av h 3 op (loadKey c h op)
     unfolding loadKey withCommand withAccepted availableWith availableWithAccepted
     does-key size =
-        needing-by (Does t av h 3 op) (reads .points) (fits .points) (lacking 3)
-        (λ points q j. pick-by (Does t av h 3 op) (not (all isKeyByte op)) (λ e. left 3 5 refl refl refl)
+        needing-by (Does t av h 3 op) (reads .exponents) (fits .exponents) (lacking 3)
+        (λ exponents q j. pick-by (Does t av h 3 op) (not (all isKeyByte op)) (λ e. left 3 5 refl refl refl)
         (λ e. taken 3 (λ s. omega arith)
-        (omega (arith, length-spaced-numbers (p .q) (keyEvaluations p points op) (omega (arith, fitting .modulus)) (allowed points), length-evaluations p (map keyCoefficient op) points, j .size, fitting .points, fitting .size))
+        (omega (arith, length-spaced-numbers (p .q) (keyEvaluations p exponents op) (omega (arith, fitting .modulus)) (allowed exponents), length-evaluations p (map keyCoefficient op) exponents, j .size, fitting .exponents, fitting .size))
         (record {
           set = reads .set;
-          points = reads .points;
+          exponents = reads .exponents;
           key = holds refl;
           evaluations = holds (ap (λ (l : List ℕ). keyEvaluations p l op) q);
           message = reads .message;
@@ -193,11 +193,11 @@ module _ (t : Material) (av : Available) (h : Held) (reads : HeldIsRead t av h) 
         })
         (record {
           set = fits .set;
-          points = fits .points;
+          exponents = fits .exponents;
           key = holds (record { size = size; bytes = not-false (all isKeyByte op) e });
           evaluations = holds (record {
-            size = length-evaluations p (map keyCoefficient op) points ∙ j .size;
-            below = holds-true (areEvaluations p (keyEvaluations p points op)) (allowed points);
+            size = length-evaluations p (map keyCoefficient op) exponents ∙ j .size;
+            below = holds-true (areEvaluations p (keyEvaluations p exponents op)) (allowed exponents);
           });
           message = fits .message;
           masks = fits .masks;
@@ -227,10 +227,10 @@ module _ (t : Material) (av : Available) (h : Held) (reads : HeldIsRead t av h) 
     unfolding loadMessage withCommand withAccepted availableWith availableWithAccepted
     does-message size =
         taken 5 (λ s. omega arith) (omega arith)
-        (record { set = reads .set; points = reads .points; key = reads .key; evaluations = reads .evaluations; message = holds refl; masks = reads .masks })
+        (record { set = reads .set; exponents = reads .exponents; key = reads .key; evaluations = reads .evaluations; message = holds refl; masks = reads .masks })
         (record {
           set = fits .set;
-          points = fits .points;
+          exponents = fits .exponents;
           key = fits .key;
           evaluations = fits .evaluations;
           message = holds size;
@@ -278,15 +278,15 @@ module _ (t : Material) (av : Available) (h : Held) (reads : HeldIsRead t av h) 
     does-sign : Does t av h 6 op (sign c h)
     unfolding sign
     does-sign =
-        needing-by (Does t av h 6 op) (reads .points) (fits .points) (lacking 6)
-        (λ points jq j. needing-by (Does t av h 6 op) (reads .key) (fits .key) (lacking 6)
+        needing-by (Does t av h 6 op) (reads .exponents) (fits .exponents) (lacking 6)
+        (λ exponents jq j. needing-by (Does t av h 6 op) (reads .key) (fits .key) (lacking 6)
         (λ key kq k. needing-by (Does t av h 6 op) (reads .message) (fits .message) (lacking 6)
         (λ message mq m.
-        let same : answerWith t ≡ signAnswer (t .set ∷ key) points (flatten (h .masks)) message (signatureRoom p) =
+        let same : answerWith t ≡ signAnswer (t .set ∷ key) exponents (flatten (h .masks)) message (signatureRoom p) =
         rw (jq, kq, mq, reads .masks) in
-        after-answer (signAnswer (t .set ∷ key) points (flatten (h .masks)) message (signatureRoom p))
-        (signWritten (t .set ∷ key) points (flatten (h .masks)) message (signatureRoom p)) same (rw (jq, kq, mq, reads .masks))
-        (λ n e. sign-refused (t .set) known key points (h .masks) message k j (fits .masks) (fits .few) m n (sym same ∙ e)))))
+        after-answer (signAnswer (t .set ∷ key) exponents (flatten (h .masks)) message (signatureRoom p))
+        (signWritten (t .set ∷ key) exponents (flatten (h .masks)) message (signatureRoom p)) same (rw (jq, kq, mq, reads .masks))
+        (λ n e. sign-refused (t .set) known key exponents (h .masks) message k j (fits .masks) (fits .few) m n (sym same ∙ e)))))
 
     after-check : (a : Verdict) → ((n : ℕ) → a ≡ verdict.Refused n → n ≡ 12) → Does t av h 7 op (afterCheck c h a)
     unfolding withCommand withAccepted availableWith availableWithAccepted
@@ -297,22 +297,22 @@ module _ (t : Material) (av : Available) (h : Held) (reads : HeldIsRead t av h) 
     does-check : length op ≡ 2 * p .b + 2 * p .n → Does t av h 7 op (check c h op)
     unfolding check
     does-check size =
-        needing-by (Does t av h 7 op) (reads .points) (fits .points) (lacking 7)
-        (λ points jq j. needing-by (Does t av h 7 op) (reads .evaluations) (fits .evaluations) (lacking 7)
+        needing-by (Does t av h 7 op) (reads .exponents) (fits .exponents) (lacking 7)
+        (λ exponents jq j. needing-by (Does t av h 7 op) (reads .evaluations) (fits .evaluations) (lacking 7)
         (λ ws vq v. needing-by (Does t av h 7 op) (reads .message) (fits .message) (lacking 7)
         (λ message mq m.
-        after-check (checkAnswer (publicKey (t .set) points ws) message (t .set ∷ op)) (check-refused (t .set) known points ws message op j v m size))))
+        after-check (checkAnswer (publicKey (t .set) exponents ws) message (t .set ∷ op)) (check-refused (t .set) known exponents ws message op j v m size))))
 
     does-evaluations : Does t av h 8 op (loadEvaluations c h op)
     unfolding loadEvaluations withCommand withAccepted availableWith availableWithAccepted
     does-evaluations =
-        needing-by (Does t av h 8 op) (reads .points) (fits .points) (lacking 8)
-        (λ points jq j. pick-by (Does t av h 8 op) (not (areEvaluations p (numbers 3 (p .t) op))) (λ e. left 8 7 refl refl refl)
+        needing-by (Does t av h 8 op) (reads .exponents) (fits .exponents) (lacking 8)
+        (λ exponents jq j. pick-by (Does t av h 8 op) (not (areEvaluations p (numbers 3 (p .t) op))) (λ e. left 8 7 refl refl refl)
         (λ e. taken 8 (λ s. omega arith) (omega arith)
-        (record { set = reads .set; points = reads .points; key = absent; evaluations = holds refl; message = reads .message; masks = reads .masks })
+        (record { set = reads .set; exponents = reads .exponents; key = absent; evaluations = holds refl; message = reads .message; masks = reads .masks })
         (record {
           set = fits .set;
-          points = fits .points;
+          exponents = fits .exponents;
           key = absent;
           evaluations = holds (record { size = length-numbers 3 (p .t) op; below = not-false (areEvaluations p (numbers 3 (p .t) op)) e });
           message = fits .message;
@@ -322,7 +322,7 @@ module _ (t : Material) (av : Available) (h : Held) (reads : HeldIsRead t av h) 
 
     does-in-set : (b : ℕ) → 1 < b → b < 9 → length op ≡ operandSizeIn p b → Does t av h b op (commandIn c h b op)
     does-in-set b low high size =
-        pick-by (Does t av h b op) (eqb b 2) (λ e. rw (eqb-true b 2 e) does-points)
+        pick-by (Does t av h b op) (eqb b 2) (λ e. rw (eqb-true b 2 e) does-exponents)
         (λ n2. pick-by (Does t av h b op) (eqb b 3) (λ e. rw (eqb-true b 3 e) (does-key (rw (eqb-true b 3 e) at size)))
         (λ n3. pick-by (Does t av h b op) (eqb b 4) (λ e. rw (eqb-true b 4 e) does-mask)
         (λ n4. pick-by (Does t av h b op) (eqb b 5) (λ e. rw (eqb-true b 5 e) (does-message (rw (eqb-true b 5 e) at size)))

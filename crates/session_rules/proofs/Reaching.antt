@@ -20,8 +20,8 @@ pub record Reached (t : Material) (av : Available) (s : Session) : Type 0 where
 pub reached-opened : Reached noMaterial noneAvailable opened
 unfolding opened noMaterial noneAvailable
 reached-opened = record {
-  reads = record { set = absent; points = absent; key = absent; evaluations = absent; message = absent; masks = refl };
-  fits = record { set = absent; points = absent; key = absent; evaluations = absent; message = absent; masks = tt; few = omega arith };
+  reads = record { set = absent; exponents = absent; key = absent; evaluations = absent; message = absent; masks = refl };
+  fits = record { set = absent; exponents = absent; key = absent; evaluations = absent; message = absent; masks = tt; few = omega arith };
 }
 
 module _ (t : Material) (av : Available) (s : Session) (r : Reached t av s) (file : List ℕ) where

@@ -14,14 +14,14 @@ use Rattle.encoding.proofs.Writing.{below-append, encoded-below}
 use Rattle.encoding.specs.Challenge.{entriesOf}
 use Rattle.encoding.specs.Encoding.{signatureSize, signatureBytes}
 use Rattle.scheme.specs.Scheme.{Signed, Signature}
-use Rattle.signer.specs.Signer.{signatureOf}
-use Rattle.answers.specs.declared.Signing.the-variants as signing
-use Rattle.answers.specs.Answer.{setByte}
+use Rattle.signing.specs.Signer.{signatureOf}
+use Rattle.refusal.specs.declared.Signing.the-variants as signing
+use Rattle.refusal.specs.Answer.{setByte}
 use Rattle.passign.specs.Known.{Known}
 use Rattle.passign.specs.Hiding.{Call, ourLibrary}
-use Rattle.answers.proofs.Apart.{refused-not-signed}
+use Rattle.refusal.proofs.Apart.{refused-not-signed}
 use Rattle.passign.proofs.Encoded as encoded-laws
-use Rattle.entry_sign.proofs.AcceptedSigning.{SignedAs, accepted-signing, signed-bytes}
+use Rattle.signing.proofs.AcceptedSigning.{SignedAs, accepted-signing, signed-bytes}
 use Rattle.passign.proofs.AcceptedBytes.{signature-fits}
 use Rattle.passign.proofs.FiveSets.{set-encodable}
 use Rattle.passign.proofs.Entry.{sign-entry, written-entry}
@@ -35,13 +35,13 @@ signature-bytes-below set s h =
 module _ (call : Call) {i : ℕ} (e : ourLibrary .signs call ≡ signing.Signed i) where
   -- the signature behind the bytes
   behind : Known (call .key) (call .message)
-      × ((r : Signed) × SignedAs drawChallenge (setOf (setByte (call .key))) (call .key) (call .points) (call .masks) (call .message) (call .out) r i)
+      × ((r : Signed) × SignedAs drawChallenge (setOf (setByte (call .key))) (call .key) (call .exponents) (call .masks) (call .message) (call .out) r i)
   behind =
-      let h = sign-entry refused-not-signed refused-not-signed (call .key) (call .points) (call .masks) (call .message) (call .out) .0 e in
-      (h .0, accepted-signing drawChallenge (setOf (setByte (call .key))) (call .key) (call .points) (call .masks) (call .message) (call .out) (h .1))
+      let h = sign-entry refused-not-signed refused-not-signed (call .key) (call .exponents) (call .masks) (call .message) (call .out) .0 e in
+      (h .0, accepted-signing drawChallenge (setOf (setByte (call .key))) (call .key) (call .exponents) (call .masks) (call .message) (call .out) (h .1))
 
   written : ourLibrary .writes call ≡ signatureOf (setByte (call .key)) (behind .1 .0 .signature)
-  written = written-entry (call .key) (call .points) (call .masks) (call .message) (call .out) (behind .0) ∙ signed-bytes (behind .1 .1)
+  written = written-entry (call .key) (call .exponents) (call .masks) (call .message) (call .out) (behind .0) ∙ signed-bytes (behind .1 .1)
 
   pub signature-size : length (ourLibrary .writes call) ≡ signatureSize (setOf (setByte (call .key)))
   signature-size =

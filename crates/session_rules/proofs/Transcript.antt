@@ -11,7 +11,7 @@ use Rattle.algebra.specs.All.{all}
 use Rattle.parameters.specs.Sets.{sets, setOf}
 use Rattle.polynomial.specs.Evaluation.{evaluation, evaluations}
 use Rattle.encoding.specs.Bytes.{numbers}
-use Rattle.session_rules.specs.Commands.{command, chooseSet, loadPoints, loadKey, loadMask, sign}
+use Rattle.session_rules.specs.Commands.{command, chooseSet, loadExponents, loadKey, loadMask, sign}
 use Rattle.session_rules.specs.Rows.{digits, hex, spacedNumbers, rowText, atFront}
 use Rattle.session_rules.specs.Play.{Session, opened, isTagged, refusalDue, commandStep, step, isRight}
 use Rattle.session_rules.specs.Plays.{Event, events}
@@ -21,7 +21,7 @@ use Rattle.session_rules.proofs.RightPlays.{rowsFrom, goesOnFor, sessio
 
 -- what is computed: the rows of seven plays, that none of them is after the end, and the end after them
 computed : (rowsFrom document 7 opened ≡ transcript) × (T (goesOnFor document 7 opened) × (sessionAfter document 7 opened .ended ≡ true))
-unfolding document transcript opened step commandStep refusalDue isTagged command chooseSet loadPoints loadKey loadMask sign setOf sets numbers evaluations evaluation rowText digits hex spacedNumbers
+unfolding document transcript opened step commandStep refusalDue isTagged command chooseSet loadExponents loadKey loadMask sign setOf sets numbers evaluations evaluation rowText digits hex spacedNumbers
 computed = (refl, (tt, refl))
 
 pub transcript-of-document : (buffers : List (List ℕ)) → length buffers ≡ 7 → T (all isRight buffers)

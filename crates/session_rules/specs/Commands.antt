@@ -15,13 +15,13 @@ use Rattle.parameters.specs.declared.Params.{Params}
 use Rattle.parameters.specs.Sets.{isSet, setOf}
 use Rattle.polynomial.specs.Evaluation.{evaluations}
 use Rattle.encoding.specs.Bytes.{numbers, signed16}
-use Rattle.encoding.specs.Encoding.{isKeyByte, keyCoefficient, arePoints, areEvaluations, publicKey, signatureSize}
-use Rattle.answers.specs.declared.Signing.{Signing}
-use Rattle.answers.specs.declared.Signing.the-variants as signing
-use Rattle.answers.specs.declared.Verdict.{Verdict}
-use Rattle.answers.specs.declared.Verdict.the-variants as verdict
-use Rattle.entry_sign.specs.Sign.{signAnswer, signWritten}
-use Rattle.entry_check.specs.Check.{checkAnswer}
+use Rattle.encoding.specs.Encoding.{isKeyByte, keyCoefficient, areExponents, areEvaluations, publicKey, signatureSize}
+use Rattle.refusal.specs.declared.Signing.{Signing}
+use Rattle.refusal.specs.declared.Signing.the-variants as signing
+use Rattle.refusal.specs.declared.Verdict.{Verdict}
+use Rattle.refusal.specs.declared.Verdict.the-variants as verdict
+use Rattle.signing.specs.Sign.{signAnswer, signWritten}
+use Rattle.checking.specs.Check.{checkAnswer}
 use Rattle.session_rules.specs.Held.{Chosen, Held, onlySet, withMasks}
 
 -- what an accepted command adds to its row: nothing; the evaluations (03); the number passed over and the signature (06); 1 or 0 (07)
@@ -56,7 +56,7 @@ chooseSet h op =
 
 -- the public evaluations of a key of N bytes at the points
 abbrev pub keyEvaluations : Params → List ℕ → List ℕ → List ℕ
-keyEvaluations p points key = evaluations p (map keyCoefficient key) points
+keyEvaluations p exponents key = evaluations p (map keyCoefficient key) exponents
 
 -- a mask of N times two bytes
 abbrev pub maskOf : Params → List ℕ → List ℤ
@@ -68,22 +68,22 @@ signatureRoom p = replicate (signatureSize p) 0
 
 module _ (c : Chosen) (h : Held) where
   -- 02: t exponents. Forgets key and public evaluations
-  unfoldable pub loadPoints : List ℕ → Done
-  loadPoints op =
-      pick (not (arePoints (c .params) (numbers 2 (c .params .t) op))) (refused 4 h)
+  unfoldable pub loadExponents : List ℕ → Done
+  loadExponents op =
+      pick (not (areExponents (c .params) (numbers 2 (c .params .t) op))) (refused 4 h)
       (accepted
-      (record { set = h .set; points = some (numbers 2 (c .params .t) op); key = none; evaluations = none; masks = h .masks; message = h .message })
+      (record { set = h .set; exponents = some (numbers 2 (c .params .t) op); key = none; evaluations = none; masks = h .masks; message = h .message })
       nothing)
 
   -- 03: key, N bytes. Works out its public evaluations
   unfoldable pub loadKey : List ℕ → Done
   loadKey op =
-      needing (h .points) h
-      (λ (points : List ℕ).
+      needing (h .exponents) h
+      (λ (exponents : List ℕ).
       pick (not (all isKeyByte op)) (refused 5 h)
       (accepted
-      (record { set = h .set; points = h .points; key = some op; evaluations = some (keyEvaluations (c .params) points op); masks = h .masks; message = h .message })
-      (values (keyEvaluations (c .params) points op))))
+      (record { set = h .set; exponents = h .exponents; key = some op; evaluations = some (keyEvaluations (c .params) exponents op); masks = h .masks; message = h .message })
+      (values (keyEvaluations (c .params) exponents op))))
 
   -- 04: mask, N times two bytes, held after the others; at most eight
   unfoldable pub loadMask : List ℕ → Done
@@ -96,7 +96,7 @@ module _ (c : Chosen) (h : Held) where
   unfoldable pub loadMessage : List ℕ → Done
   loadMessage op =
       accepted
-      (record { set = h .set; points = h .points; key = h .key; evaluations = h .evaluations; masks = h .masks; message = some op })
+      (record { set = h .set; exponents = h .exponents; key = h .key; evaluations = h .evaluations; masks = h .masks; message = some op })
       nothing
 
   -- 06: the library's signing with what is held. Masks up to and with the one used are dropped; 9 drops all
@@ -106,13 +106,13 @@ module _ (c : Chosen) (h : Held) where
 
   unfoldable pub sign : Done
   sign =
-      needing (h .points) h
-      (λ (points : List ℕ). needing (h .key) h
+      needing (h .exponents) h
+      (λ (exponents : List ℕ). needing (h .key) h
       (λ (key : List ℕ). needing (h .message) h
       (λ (message : List ℕ).
       afterSigning
-      (signAnswer (c .byte ∷ key) points (flatten (h .masks)) message (signatureRoom (c .params)))
-      (signWritten (c .byte ∷ key) points (flatten (h .masks)) message (signatureRoom (c .params))))))
+      (signAnswer (c .byte ∷ key) exponents (flatten (h .masks)) message (signatureRoom (c .params)))
+      (signWritten (c .byte ∷ key) exponents (flatten (h .masks)) message (signatureRoom (c .params))))))
 
   -- 07: the library's check of a signature without its set byte
   abbrev pub afterCheck : Verdict → Done
@@ -122,19 +122,19 @@ module _ (c : Chosen) (h : Held) where
 
   unfoldable pub check : List ℕ → Done
   check op =
-      needing (h .points) h
-      (λ (points : List ℕ). needing (h .evaluations) h
+      needing (h .exponents) h
+      (λ (exponents : List ℕ). needing (h .evaluations) h
       (λ (vs : List ℕ). needing (h .message) h
-      (λ (message : List ℕ). afterCheck (checkAnswer (publicKey (c .byte) points vs) message (c .byte ∷ op)))))
+      (λ (message : List ℕ). afterCheck (checkAnswer (publicKey (c .byte) exponents vs) message (c .byte ∷ op)))))
 
   -- 08: public evaluations, three bytes each. Forgets the key
   unfoldable pub loadEvaluations : List ℕ → Done
   loadEvaluations op =
-      needing (h .points) h
-      (λ (points : List ℕ).
+      needing (h .exponents) h
+      (λ (exponents : List ℕ).
       pick (not (areEvaluations (c .params) (numbers 3 (c .params .t) op))) (refused 7 h)
       (accepted
-      (record { set = h .set; points = h .points; key = none; evaluations = some (numbers 3 (c .params .t) op); masks = h .masks; message = h .message })
+      (record { set = h .set; exponents = h .exponents; key = none; evaluations = some (numbers 3 (c .params .t) op); masks = h .masks; message = h .message })
       nothing))
 
 -- the commands are 00 to 08
@@ -162,7 +162,7 @@ operandSize (some c) b = pick (eqb b 1) 1 (operandSizeIn (c .params) b)
 -- command b, 02 to 08, in a set
 abbrev pub commandIn : Chosen → Held → ℕ → List ℕ → Done
 commandIn c h b op =
-    pick (eqb b 2) (loadPoints c h op)
+    pick (eqb b 2) (loadExponents c h op)
     (pick (eqb b 3) (loadKey c h op)
     (pick (eqb b 4) (loadMask c h op)
     (pick (eqb b 5) (loadMessage c h op)

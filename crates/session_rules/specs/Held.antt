@@ -14,7 +14,7 @@ pub record Chosen : Type 0 where
 -- a key is held as its N bytes; masks in the order in which they came
 pub record Held : Type 0 where
   pub set : Option Chosen
-  pub points : Option (List ℕ)
+  pub exponents : Option (List ℕ)
   pub key : Option (List ℕ)
   pub evaluations : Option (List ℕ)
   pub masks : List (List ℤ)
@@ -22,8 +22,8 @@ pub record Held : Type 0 where
 
 -- nothing but a set, or nothing at all
 abbrev pub onlySet : Option Chosen → Held
-onlySet c = record { set = c; points = none; key = none; evaluations = none; masks = []; message = none }
+onlySet c = record { set = c; exponents = none; key = none; evaluations = none; masks = []; message = none }
 
 abbrev pub withMasks : List (List ℤ) → Held → Held
 withMasks ys h =
-    record { set = h .set; points = h .points; key = h .key; evaluations = h .evaluations; masks = ys; message = h .message }
+    record { set = h .set; exponents = h .exponents; key = h .key; evaluations = h .evaluations; masks = ys; message = h .message }

@@ -25,32 +25,32 @@ materialRead es = materialAfter noMaterial es
 -- beside the material: which things an accepted command gave that no later one has forgotten, and the public evaluations given last
 pub record Available : Type 0 where
   pub set : Bool
-  pub points : Bool
+  pub exponents : Bool
   pub key : Bool
   pub evaluations : Bool
   pub message : Bool
   pub values : List ℕ
 
 unfoldable pub noneAvailable : Available
-noneAvailable = record { set = false; points = false; key = false; evaluations = false; message = false; values = [] }
+noneAvailable = record { set = false; exponents = false; key = false; evaluations = false; message = false; values = [] }
 
 -- one more accepted command: 01 forgets all else, 02 forgets key and public evaluations, 03 works out its public evaluations, 08 forgets the key
 unfoldable pub availableWithAccepted : Material → Available → ℕ → List ℕ → Available
 availableWithAccepted m a b op =
-    pick (eqb b 1) (record { set = true; points = false; key = false; evaluations = false; message = false; values = a .values })
-    (pick (eqb b 2) (record { set = a .set; points = true; key = false; evaluations = false; message = a .message; values = a .values })
+    pick (eqb b 1) (record { set = true; exponents = false; key = false; evaluations = false; message = false; values = a .values })
+    (pick (eqb b 2) (record { set = a .set; exponents = true; key = false; evaluations = false; message = a .message; values = a .values })
     (pick (eqb b 3) (record {
       set = a .set;
-      points = a .points;
+      exponents = a .exponents;
       key = true;
       evaluations = true;
       message = a .message;
-      values = keyEvaluations (paramsIn m) (m .points) op;
+      values = keyEvaluations (paramsIn m) (m .exponents) op;
     })
-    (pick (eqb b 5) (record { set = a .set; points = a .points; key = a .key; evaluations = a .evaluations; message = true; values = a .values })
+    (pick (eqb b 5) (record { set = a .set; exponents = a .exponents; key = a .key; evaluations = a .evaluations; message = true; values = a .values })
     (pick (eqb b 8) (record {
       set = a .set;
-      points = a .points;
+      exponents = a .exponents;
       key = false;
       evaluations = true;
       message = a .message;
@@ -79,7 +79,7 @@ pub data Holding {A : Type 0} (P : A → Type 0) : Bool → Option A → Type 0 
 -- what is held is what is read
 pub record HeldIsRead (m : Material) (a : Available) (h : Held) : Type 0 where
   pub set : Holding (λ (c : Chosen). c ≡ setRead m) (a .set) (h .set)
-  pub points : Holding (λ (l : List ℕ). l ≡ m .points) (a .points) (h .points)
+  pub exponents : Holding (λ (l : List ℕ). l ≡ m .exponents) (a .exponents) (h .exponents)
   pub key : Holding (λ (l : List ℕ). l ≡ m .key) (a .key) (h .key)
   pub evaluations : Holding (λ (l : List ℕ). l ≡ a .values) (a .evaluations) (h .evaluations)
   pub message : Holding (λ (l : List ℕ). l ≡ m .message) (a .message) (h .message)

@@ -14,8 +14,8 @@ use Rattle.algebra.specs.All.{all}
 use Rattle.parameters.specs.declared.Params.{Params}
 use Rattle.parameters.specs.Sets.{setOf}
 use Rattle.encoding.specs.Bytes.{numbers}
-use Rattle.answers.specs.declared.Signing.{Signing}
-use Rattle.answers.specs.declared.Signing.the-variants as signing
+use Rattle.refusal.specs.declared.Signing.{Signing}
+use Rattle.refusal.specs.declared.Signing.the-variants as signing
 use Rattle.passign.specs.Hiding.{Call, ourLibrary, Made, Same, Each₃}
 use Rattle.session_rules.specs.Commands.{maskOf, signatureRoom}
 use Rattle.session_rules.specs.Play.{Session, opened, step, PlayAnswer, row, fault, over, Outcome, play}
@@ -70,14 +70,14 @@ printedSignature buffer = unhex (afterSpace (afterSpace (afterSpace (afterSpace 
 -- the operands of the last accepted 01, 02, 03 and 05, and the masks of each accepted 04 since that 01 less those dropped
 pub record Material : Type 0 where
   pub set : ℕ
-  pub points : List ℕ
+  pub exponents : List ℕ
   pub key : List ℕ
   pub message : List ℕ
   pub masks : List (List ℤ)
 
 -- before any command
 unfoldable pub noMaterial : Material
-noMaterial = record { set = 0; points = []; key = []; message = []; masks = [] }
+noMaterial = record { set = 0; exponents = []; key = []; message = []; masks = [] }
 
 -- the number of masks passed over before the first that passes; all where none does
 abbrev pub passedOver : List (List ℤ) → Signing → ℕ
@@ -90,12 +90,12 @@ module _ (m : Material) where
 
   -- with other masks
   abbrev pub withMasksIn : List (List ℤ) → Material
-  withMasksIn ys = record { set = m .set; points = m .points; key = m .key; message = m .message; masks = ys }
+  withMasksIn ys = record { set = m .set; exponents = m .exponents; key = m .key; message = m .message; masks = ys }
 
   -- the call of the library's signing that a 06 is, with the key in its encoding
   abbrev pub callWith : Call
   callWith =
-      record { key = m .set ∷ m .key; points = m .points; masks = flatten (m .masks); message = m .message; out = signatureRoom paramsIn }
+      record { key = m .set ∷ m .key; exponents = m .exponents; masks = flatten (m .masks); message = m .message; out = signatureRoom paramsIn }
 
   -- how many masks are passed over before the first that passes, and so its number
   unfoldable pub firstPassing : ℕ
@@ -108,11 +108,11 @@ module _ (m : Material) where
 -- one more accepted command
 unfoldable pub withAccepted : Material → ℕ → List ℕ → Material
 withAccepted m b op =
-    pick (eqb b 1) (record { set = getD op 0 0; points = m .points; key = m .key; message = m .message; masks = [] })
-    (pick (eqb b 2) (record { set = m .set; points = numbers 2 (paramsIn m .t) op; key = m .key; message = m .message; masks = m .masks })
-    (pick (eqb b 3) (record { set = m .set; points = m .points; key = op; message = m .message; masks = m .masks })
+    pick (eqb b 1) (record { set = getD op 0 0; exponents = m .exponents; key = m .key; message = m .message; masks = [] })
+    (pick (eqb b 2) (record { set = m .set; exponents = numbers 2 (paramsIn m .t) op; key = m .key; message = m .message; masks = m .masks })
+    (pick (eqb b 3) (record { set = m .set; exponents = m .exponents; key = op; message = m .message; masks = m .masks })
     (pick (eqb b 4) (withMasksIn m (m .masks ++ (maskOf (paramsIn m) op ∷ [])))
-    (pick (eqb b 5) (record { set = m .set; points = m .points; key = m .key; message = op; masks = m .masks })
+    (pick (eqb b 5) (record { set = m .set; exponents = m .exponents; key = m .key; message = op; masks = m .masks })
     (pick (eqb b 6) (withMasksIn m (drop (suc (firstPassing m)) (m .masks)))
     m)))))
 

@@ -9,19 +9,19 @@ ghost use Rattle.algebra.specs.Choice.{pick};
 ghost use Rattle.parameters.specs.declared.Params.{Params};
 ghost use Rattle.parameters.specs.Sound.{Fitting};
 ghost use Rattle.encoding.specs.Encoding.{secretKeySize, signatureSize};
-ghost use Rattle.entry_sign.specs.Sign.{signAnswer, signWritten};
+ghost use Rattle.signing.specs.Sign.{signAnswer, signWritten};
 ghost use Rattle.session_rules.specs.Held.{withMasks};
 ghost use Rattle.session_rules.specs.Commands.{refused, signatureRoom, sign};
-ghost use Rattle.session_state.specs.State.{hasPoints, masksHeld, chosenIn, heldIn};
+ghost use Rattle.session_state.specs.State.{hasExponents, masksHeld, chosenIn, heldIn};
 ghost use Rattle.session_state.specs.Ran.{InSet, Ran};
-use answers::Signing;
 use parameters::Params;
+use refusal::Signing;
 use session_rows::write_plain;
 use session_rows::write_signed;
 use session_state::Done;
 use session_state::Held;
 use session_state::bytes::with_set;
-use session_state::has_points;
+use session_state::has_exponents;
 use session_state::mask_list::at_most_eight;
 use session_state::mask_list::without_masks;
 use session_state::no_masks;
@@ -35,10 +35,10 @@ struct Made {
 // Whether points, key and message are held.
 fn can_sign(p: Params, h: Held) -> bool
     requires { ⌜ Fitting p ⌝ }
-    ensures { λ r. ⌜ r ≡ hasPoints p (h .points) && (h .key .held && h .message .held) ⌝ }
+    ensures { λ r. ⌜ r ≡ hasExponents p (h .exponents) && (h .key .held && h .message .held) ⌝ }
 {
-    let points = h.points;
-    has_points(p, points) & (h.key.held & h.message.held)
+    let exponents = h.exponents;
+    has_exponents(p, exponents) & (h.key.held & h.message.held)
 }
 
 // The secret key held, in front.
@@ -55,20 +55,20 @@ fn secret_held(p: Params, h: Held) -> [u8; 2435]
 // The library's signing, lent a signature of zeros.
 fn make(p: Params, h: Held) -> Made
     requires { ⌜ Fitting p ⌝ }
-    ensures answer { λ r. ⌜ r .answer ≡ signAnswer (h .set ∷ take (p .n) (h .key .bytes)) (take (p .t) (h .points .list)) (flatten (masksHeld (p .n) (h .masks))) (h .message .bytes) (signatureRoom p) ⌝ }
-    ensures bytes { λ r. ⌜ take (signatureSize p) (r .bytes) ≡ signWritten (h .set ∷ take (p .n) (h .key .bytes)) (take (p .t) (h .points .list)) (flatten (masksHeld (p .n) (h .masks))) (h .message .bytes) (signatureRoom p) ⌝ }
+    ensures answer { λ r. ⌜ r .answer ≡ signAnswer (h .set ∷ take (p .n) (h .key .bytes)) (take (p .t) (h .exponents .list)) (flatten (masksHeld (p .n) (h .masks))) (h .message .bytes) (signatureRoom p) ⌝ }
+    ensures bytes { λ r. ⌜ take (signatureSize p) (r .bytes) ≡ signWritten (h .set ∷ take (p .n) (h .key .bytes)) (take (p .t) (h .exponents .list)) (flatten (masksHeld (p .n) (h .masks))) (h .message .bytes) (signatureRoom p) ⌝ }
 {
     let n = p.n;
     let t = p.t;
     let key_size = 1 + n;
     let size = 1 + 2 * p.b + 2 * n;
-    let list = h.points.list;
+    let list = h.exponents.list;
     let numbers = h.masks.numbers;
     let used = at_most_eight(h.masks.count) * n;
     let text = h.message.bytes;
     let secret = secret_held(p, h);
     let mut out = [0u8; 2435];
-    let answer = entry_sign::sign(
+    let answer = signing::sign(
         &secret[..key_size],
         &list[..t],
         &numbers[..used],

@@ -8,7 +8,7 @@ use lib.Seq.{length-take-le, take-at}
 use Rattle.parameters.specs.declared.Params.{Params}
 use Rattle.parameters.specs.Sound.{Fitting}
 use Rattle.encoding.proofs.Buffer.{front-room, front-length}
-use Rattle.session_state.proofs.Room.{points-room}
+use Rattle.session_state.proofs.Room.{exponents-room}
 
 -- the first n elements of an array are l
 pub record InFront {A : Type 0} (n : ℕ) (l array : List A) : Type 0 where
@@ -23,5 +23,5 @@ stored n {l} {written} rest size is =
     record { room = front-room written rest n e; count = front-length written rest n e; front = take-at written rest n e ∙ is }
 
 -- t are lent of an array of 1152
-pub points-lent : {p : Params} → Fitting p → p .t ≡ length (take {A = ℕ} (p .t) (replicate 1152 0))
-points-lent {p} f = sym (length-take-le (p .t) (replicate 1152 0) (points-room f))
+pub exponents-lent : {p : Params} → Fitting p → p .t ≡ length (take {A = ℕ} (p .t) (replicate 1152 0))
+exponents-lent {p} f = sym (length-take-le (p .t) (replicate 1152 0) (exponents-room f))

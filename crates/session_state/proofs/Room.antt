@@ -7,8 +7,8 @@ use Rattle.parameters.specs.Sound.{Fitting}
 use Rattle.encoding.specs.Encoding.{publicKeySize, signatureSize}
 
 module _ {p : Params} (f : Fitting p) where
-  pub points-room : p .t ≤ 1152
-  points-room = omega arith
+  pub exponents-room : p .t ≤ 1152
+  exponents-room = omega arith
 
   pub public-key-room : publicKeySize p ≤ 5761
   public-key-room = omega arith

@@ -27,7 +27,7 @@ pub record Loading (byte : ℕ) : Type 0 where
 -- what is held once a key is loaded, with its public evaluations
 abbrev pub withKey : Held → List ℕ → List ℕ → Held
 withKey h key vs =
-    record { set = h .set; points = h .points; key = some key; evaluations = some vs; masks = h .masks; message = h .message }
+    record { set = h .set; exponents = h .exponents; key = some key; evaluations = some vs; masks = h .masks; message = h .message }
 
 -- a number and what is held, with what the row adds
 abbrev pub doneIn : Params → code.Done → Payload → Done

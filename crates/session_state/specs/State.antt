@@ -12,9 +12,9 @@ use Rattle.algebra.specs.Choice.{pick}
 use Rattle.parameters.specs.declared.Params.{Params}
 use Rattle.parameters.specs.Sets.{isSet, setOf}
 use Rattle.encoding.specs.Bytes.{parts}
-use Rattle.encoding.specs.Encoding.{arePoints}
+use Rattle.encoding.specs.Encoding.{areExponents}
 use Rattle.session_rules.specs.Held.{Chosen, Held, onlySet}
-use Rattle.session_state.specs.declared.Points.{Points}
+use Rattle.session_state.specs.declared.Exponents.{Exponents}
 use Rattle.session_state.specs.declared.Key.{Key}
 use Rattle.session_state.specs.declared.Evaluations.{Evaluations}
 use Rattle.session_state.specs.declared.Masks.{Masks}
@@ -29,11 +29,11 @@ abbrev pub atMostEight : ℕ → ℕ
 atMostEight count = pick (ltb count 8) count 8
 
 module _ (p : Params) where
-  abbrev pub hasPoints : Points → Bool
-  hasPoints x = x .held && arePoints p (take (p .t) (x .list))
+  abbrev pub hasExponents : Exponents → Bool
+  hasExponents x = x .held && areExponents p (take (p .t) (x .list))
 
-  abbrev pub pointsHeld : Points → Option (List ℕ)
-  pointsHeld x = whenHeld (hasPoints x) (take (p .t) (x .list))
+  abbrev pub exponentsHeld : Exponents → Option (List ℕ)
+  exponentsHeld x = whenHeld (hasExponents x) (take (p .t) (x .list))
 
   abbrev pub keyHeld : Key → Option (List ℕ)
   keyHeld x = whenHeld (x .held) (take (p .n) (x .bytes))
@@ -61,7 +61,7 @@ unfoldable pub heldIn : Params → state.Held → Held
 heldIn p h =
     record {
       set = some (chosenIn p (h .set));
-      points = pointsHeld p (h .points);
+      exponents = exponentsHeld p (h .exponents);
       key = keyHeld p (h .key);
       evaluations = evaluationsHeld p (h .evaluations);
       masks = masksHeld (p .n) (h .masks);

@@ -3,15 +3,15 @@ ghost use mathlib.Core.Path.{_≡_};
 ghost use mathlib.Core.Bool.{false};
 ghost use Rattle.parameters.specs.Sound.{Fitting};
 ghost use Rattle.session_rules.specs.Held.{onlySet};
-ghost use Rattle.session_state.specs.State.{setHeld, hasPoints, heldOf};
-use encoding::public_key::are_points;
+ghost use Rattle.session_state.specs.State.{setHeld, hasExponents, heldOf};
+use encoding::public_key::are_exponents;
 use parameters::Params;
 
 pub mod bytes;
 pub mod mask_list;
 
 // The points, t of them in front.
-pub struct Points {
+pub struct Exponents {
     pub held: bool,
     pub list: [u16; 1152],
 }
@@ -42,7 +42,7 @@ pub struct Message {
 // What a session holds. A set above 4 is none, and without a set nothing is held.
 pub struct Held {
     pub set: u8,
-    pub points: Points,
+    pub exponents: Exponents,
     pub key: Key,
     pub evaluations: Evaluations,
     pub masks: Masks,
@@ -55,10 +55,10 @@ pub struct Done {
     pub held: Held,
 }
 
-fn no_points() -> Points
+fn no_exponents() -> Exponents
     ensures { λ r. ⌜ r .held ≡ false ⌝ }
 {
-    Points {
+    Exponents {
         held: false,
         list: [0u16; 1152],
     }
@@ -106,7 +106,7 @@ pub fn only_set(set: u8) -> Held
 {
     Held {
         set: set,
-        points: no_points(),
+        exponents: no_exponents(),
         key: no_key(),
         evaluations: no_evaluations(),
         masks: no_masks(),
@@ -115,15 +115,15 @@ pub fn only_set(set: u8) -> Held
 }
 
 // Whether points are held that are points of the set. They are tested anew, so that no state can lend the evaluator a number that is no exponent.
-pub fn has_points(p: Params, points: Points) -> bool
+pub fn has_exponents(p: Params, exponents: Exponents) -> bool
     requires { ⌜ Fitting p ⌝ }
-    ensures { λ r. ⌜ r ≡ hasPoints p points ⌝ }
+    ensures { λ r. ⌜ r ≡ hasExponents p exponents ⌝ }
 {
-    if points.held {
+    if exponents.held {
         let n = p.n;
         let t = p.t;
-        let list = points.list;
-        return are_points(&list[..t], n);
+        let list = exponents.list;
+        return are_exponents(&list[..t], n);
     }
     false
 }

@@ -2,3 +2,4 @@ pub mod Loops
 pub mod Filling
 pub mod Chain
 pub mod Digest
+pub mod Roots

@@ -7,9 +7,9 @@ use native.Mathlib.Numerals.{add-one}
 use native.Mathlib.Omega.{arith}
 use lib.ListN.{length, getD, take, drop}
 use lib.Seq.{getD-take}
-use Rattle.sha512_functions.specs.Word.{add}
+use Rattle.sha512.specs.Word.{add}
 use Rattle.sha512.specs.Bytes.{wordAt, bytes8, written}
-use Rattle.sha512_functions.specs.Constants.{K}
+use Rattle.sha512.specs.Constants.{K}
 use Rattle.sha512.specs.Compression.{words, nextWord, expand, round, rounds, sums, compress}
 use Rattle.sha512.specs.Padding.{blockAt}
 use Rattle.sha512.specs.Digest.{chain, bytesOf}

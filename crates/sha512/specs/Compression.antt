@@ -3,9 +3,9 @@
 use Prim.Native.Nat.{ℕ, zero, suc, _+_, _-_, _*_}
 use mathlib.Core.List.{List, [], _∷_, _++_}
 use lib.ListN.{getD}
-use Rattle.sha512_functions.specs.Word.{add, Ch, Maj, Σ0, Σ1, σ0, σ1}
+use Rattle.sha512.specs.Word.{add, Ch, Maj, Σ0, Σ1, σ0, σ1}
 use Rattle.sha512.specs.Bytes.{wordAt}
-use Rattle.sha512_functions.specs.Constants.{K}
+use Rattle.sha512.specs.Constants.{K}
 
 -- the first n words of b
 unfoldable pub words : ℕ → List ℕ → List ℕ

@@ -8,11 +8,11 @@ ghost use Rattle.sha512.specs.Padding.{ending};
 ghost use Rattle.sha512.specs.Digest.{hashValue, bytesOf};
 use crate::compression::compressed;
 use crate::compression::compressed_with;
+use crate::constants::round_constants;
 use crate::padding::filled;
 use crate::padding::put;
 use crate::padding::with_length;
 use crate::padding::word_bytes;
-use sha512_functions::constants::round_constants;
 
 // The hash value after the whole blocks of the slice, h being the one before them.
 pub fn after_blocks(h: [u64; 8], bytes: &[u8]) -> [u64; 8]

@@ -1,7 +1,7 @@
 -- `passign_check` meets its contract: each case of the verdict has its number.
 -- Assumes nothing.
 use mathlib.Core.Path.{sym, ap, _∙_}
-use Rattle.answers.specs.Answer.{verdictNumber}
+use Rattle.refusal.specs.Answer.{verdictNumber}
 use borrow.Author.Needs.{needs}
 use Rattle.passign_c.proofs.passign_check.Statement.{statement}
 use Rattle.passign_c.proofs.passign_check.Tie as tie

@@ -1,8 +1,8 @@
 -- `passign_public_key` meets its contract: the answer of the one call, as a number.
 -- Assumes nothing.
 use mathlib.Core.Path.{ap, _∙_}
-use Rattle.answers.specs.Answer.{numberOf}
-use Rattle.answers.proofs.Answering.{numbered}
+use Rattle.refusal.specs.Answer.{numberOf}
+use Rattle.refusal.proofs.Answering.{numbered}
 use borrow.Author.Needs.{needs}
 use Rattle.passign_c.proofs.passign_public_key.Statement.{statement}
 use Rattle.passign_c.proofs.passign_public_key.Tie as tie

@@ -1,7 +1,7 @@
 -- `passign_sign` meets its contract: each case of the answer has its number.
 -- Assumes nothing.
 use mathlib.Core.Path.{sym, ap, _∙_}
-use Rattle.answers.specs.Answer.{signingNumber}
+use Rattle.refusal.specs.Answer.{signingNumber}
 use borrow.Author.Needs.{needs}
 use Rattle.passign_c.proofs.passign_sign.Statement.{statement}
 use Rattle.passign_c.proofs.passign_sign.Tie as tie

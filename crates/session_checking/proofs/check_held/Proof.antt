@@ -9,11 +9,11 @@ use borrow.Author.Needs.{needs}
 use borrow.Author.Tests.{not-true, not-false}
 use Rattle.parameters.specs.declared.Params.{Params}
 use Rattle.encoding.specs.Encoding.{publicKey}
-use Rattle.answers.specs.declared.Verdict.{Verdict}
-use Rattle.entry_check.specs.Check.{checkAnswer}
+use Rattle.refusal.specs.declared.Verdict.{Verdict}
+use Rattle.checking.specs.Check.{checkAnswer}
 use Rattle.session_rules.specs.Commands.{Done, refused, afterCheck, check}
 use Rattle.session_state.specs.declared.Held.{Held}
-use Rattle.session_state.specs.State.{hasPoints, chosenIn, heldIn}
+use Rattle.session_state.specs.State.{hasExponents, chosenIn, heldIn}
 use Rattle.session_state.proofs.Needing.{all-held, one-lacks}
 use Rattle.session_checking.proofs.check_held.Statement.{statement}
 use Rattle.session_checking.proofs.check_held.Tie as tie
@@ -21,25 +21,25 @@ use Rattle.session_checking.proofs.check_held.Tie as tie
 -- what command 07 does, by what is held
 module _ (p : Params) (h : Held) (op : List ℕ) where
   abbrev judgedWith : List ℕ → List ℕ → List ℕ → Done
-  judgedWith points vs message = afterCheck (chosenIn p (h .set)) (heldIn p h) (checkAnswer (publicKey (h .set) points vs) message (h .set ∷ op))
+  judgedWith exponents vs message = afterCheck (chosenIn p (h .set)) (heldIn p h) (checkAnswer (publicKey (h .set) exponents vs) message (h .set ∷ op))
 
-  abbrev points : List ℕ
-  points = take (p .t) (h .points .list)
+  abbrev exponents : List ℕ
+  exponents = take (p .t) (h .exponents .list)
 
   abbrev vs : List ℕ
   vs = take (p .t) (h .evaluations .list)
 
-  lacking : hasPoints p (h .points) && (h .evaluations .held && h .message .held) ≡ false
+  lacking : hasExponents p (h .exponents) && (h .evaluations .held && h .message .held) ≡ false
       → check (chosenIn p (h .set)) (heldIn p h) op ≡ refused 10 (heldIn p h)
   unfolding check heldIn
-  lacking e = one-lacks points vs (h .message .bytes) (heldIn p h) judgedWith (hasPoints p (h .points)) (h .evaluations .held) (h .message .held) e
+  lacking e = one-lacks exponents vs (h .message .bytes) (heldIn p h) judgedWith (hasExponents p (h .exponents)) (h .evaluations .held) (h .message .held) e
 
   judged : {v : Verdict}
-      → hasPoints p (h .points) && (h .evaluations .held && h .message .held) ≡ true
-      → v ≡ checkAnswer (publicKey (h .set) points vs) (h .message .bytes) (h .set ∷ op)
+      → hasExponents p (h .exponents) && (h .evaluations .held && h .message .held) ≡ true
+      → v ≡ checkAnswer (publicKey (h .set) exponents vs) (h .message .bytes) (h .set ∷ op)
       → check (chosenIn p (h .set)) (heldIn p h) op ≡ afterCheck (chosenIn p (h .set)) (heldIn p h) v
   unfolding check heldIn
-  judged e v = rw v (all-held points vs (h .message .bytes) (heldIn p h) judgedWith (hasPoints p (h .points)) (h .evaluations .held) (h .message .held) e)
+  judged e v = rw v (all-held exponents vs (h .message .bytes) (heldIn p h) judgedWith (hasExponents p (h .exponents)) (h .evaluations .held) (h .message .held) e)
 
 returns : tie.Need-returns
 returns c =

@@ -7,7 +7,7 @@ use lib.ListN.{length}
 use lib.Seq.{length-take-le}
 use borrow.Author.Needs.{needs}
 use Rattle.encoding.specs.Encoding.{publicKeySize}
-use Rattle.entry_check.specs.Check.{checkAnswer}
+use Rattle.checking.specs.Check.{checkAnswer}
 use Rattle.session_checking.proofs.judge.Statement.{statement}
 use Rattle.session_checking.proofs.judge.Tie as tie
 

@@ -7,29 +7,29 @@ use lib.ListN.{length, drop, replicate}
 use lib.Seq.{length-take-le, take-at}
 use borrow.Author.Needs.{needs}
 use Rattle.encoding.specs.Encoding.{publicKeySize}
-use Rattle.session_state.proofs.Room.{points-room, public-key-room}
+use Rattle.session_state.proofs.Room.{exponents-room, public-key-room}
 use Rattle.session_checking.proofs.key_held.Statement.{statement}
 use Rattle.session_checking.proofs.key_held.Tie as tie
 
 -- the arrays held have t numbers
 module _ (s : tie.Start) where
-  points-fit : s .args .p .t ≤ length (s .args .h .points .list)
-  points-fit =
-      let size : length (s .args .h .points .list) ≡ 1152 = search needs in
-      omega (arith, points-room (s .pre))
+  exponents-fit : s .args .p .t ≤ length (s .args .h .exponents .list)
+  exponents-fit =
+      let size : length (s .args .h .exponents .list) ≡ 1152 = search needs in
+      omega (arith, exponents-room (s .pre))
 
   evaluations-fit : s .args .p .t ≤ length (s .args .h .evaluations .list)
   evaluations-fit =
       let size : length (s .args .h .evaluations .list) ≡ 1152 = search needs in
-      omega (arith, points-room (s .pre))
+      omega (arith, exponents-room (s .pre))
 
 array-share-prefix-list : tie.Need-array-share-prefix-list
-array-share-prefix-list c = points-fit (c .before .before .before .before)
+array-share-prefix-list c = exponents-fit (c .before .before .before .before)
 
 slice-aggregate-put-public-key : tie.Need-slice-aggregate-put-public-key
 slice-aggregate-put-public-key c =
     let s = c .before .before .before .before .before in
-    sym (length-take-le (s .args .p .t) (s .args .h .points .list) (points-fit s))
+    sym (length-take-le (s .args .p .t) (s .args .h .exponents .list) (exponents-fit s))
 
 array-share-prefix-values : tie.Need-array-share-prefix-values
 array-share-prefix-values c = evaluations-fit (c .before .before .before .before .before)
@@ -46,7 +46,7 @@ slice-aggregate-put-public-key-3 c =
 
 put-public-key-requires : tie.Need-put-public-key-requires
 put-public-key-requires c κs =
-    let points = slice-aggregate-put-public-key (c .before .before) in
+    let exponents = slice-aggregate-put-public-key (c .before .before) in
     let evaluations = slice-aggregate-put-public-key-2 (c .before) in
     sym (slice-aggregate-put-public-key-3 c) ∙ omega arith
 

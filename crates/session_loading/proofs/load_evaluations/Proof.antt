@@ -14,30 +14,30 @@ use Rattle.encoding.proofs.Parts.{length-numbers}
 use Rattle.session_rules.specs.Commands.{nothing, loadEvaluations}
 use Rattle.session_state.specs.declared.Key.{Key}
 use Rattle.session_state.specs.declared.Held as state
-use Rattle.session_state.specs.State.{hasPoints, chosenIn, heldIn}
+use Rattle.session_state.specs.State.{hasExponents, chosenIn, heldIn}
 use Rattle.session_state.specs.Ran.{doneIn}
-use Rattle.session_state.proofs.InFront.{InFront, stored, points-lent}
+use Rattle.session_state.proofs.InFront.{InFront, stored, exponents-lent}
 use Rattle.session_loading.proofs.load_evaluations.Statement.{statement}
 use Rattle.session_loading.proofs.load_evaluations.Tie as tie
 
 -- evaluations of the set, and no key
 loaded : (p : Params) (h : state.Held) (k : Key) (list op : List ℕ)
-    → hasPoints p (h .points) ≡ true → k .held ≡ false → take (p .t) list ≡ numbers 3 (p .t) op → areEvaluations p (numbers 3 (p .t) op) ≡ true
-    → doneIn p (record { number = 0; held = record { set = h .set; points = h .points; key = k; evaluations = record { held = true; list = list }; masks = h .masks; message = h .message } }) nothing
+    → hasExponents p (h .exponents) ≡ true → k .held ≡ false → take (p .t) list ≡ numbers 3 (p .t) op → areEvaluations p (numbers 3 (p .t) op) ≡ true
+    → doneIn p (record { number = 0; held = record { set = h .set; exponents = h .exponents; key = k; evaluations = record { held = true; list = list }; masks = h .masks; message = h .message } }) nothing
     ≡ loadEvaluations (chosenIn p (h .set)) (heldIn p h) op
 unfolding loadEvaluations heldIn
 loaded p h k list op a b e below = rw (a, b, e, below)
 
 returns : tie.Need-returns
 unfolding loadEvaluations heldIn
-returns c = (rw (sym (c .before .has-points .ensures) ∙ not-true _ (c .if1 .taken)), refl)
+returns c = (rw (sym (c .before .has-exponents .ensures) ∙ not-true _ (c .if1 .taken)), refl)
 
 -- points are held
-with-points : (c : tie.Else1) → let a = c .before .before .before .before .args in hasPoints (a .p) (a .h .points) ≡ true
-with-points c = sym (c .before .has-points .ensures) ∙ not-false _ (c .if1 .left)
+with-exponents : (c : tie.Else1) → let a = c .before .before .before .before .args in hasExponents (a .p) (a .h .exponents) ≡ true
+with-exponents c = sym (c .before .has-exponents .ensures) ∙ not-false _ (c .if1 .left)
 
 slice-aggregate-read-triples : tie.Need-slice-aggregate-read-triples
-slice-aggregate-read-triples c = points-lent (c .before .before .before .before .before .pre .0)
+slice-aggregate-read-triples c = exponents-lent (c .before .before .before .before .before .pre .0)
 
 read-triples-requires : tie.Need-read-triples-requires
 read-triples-requires c κs = c .before .before .before .before .before .pre .1 ∙ ap (λ (n : ℕ). 3 * n) (slice-aggregate-read-triples c)
@@ -69,14 +69,14 @@ returns-2 : tie.Need-returns-2
 unfolding loadEvaluations heldIn
 returns-2 c =
     let r = c .before .before .before .before .before .before in
-    (rw (with-points r, tested (c .before) ∙ not-true _ (c .if2 .taken)), refl)
+    (rw (with-exponents r, tested (c .before) ∙ not-true _ (c .if2 .taken)), refl)
 
 returns-3 : tie.Need-returns-3
 returns-3 c =
     let t = c .before in
     let r = t .before .before .before .before in
     let a = r .before .before .before .before .before .before .args in
-    (loaded (a .p) (a .h) _ _ (a .operand .now) (with-points (r .before .before)) (c .no-key .ensures) (read r .front) (tested (t .before) ∙ not-false _ (t .if2 .left)), refl)
+    (loaded (a .p) (a .h) _ _ (a .operand .now) (with-exponents (r .before .before)) (c .no-key .ensures) (read r .front) (tested (t .before) ∙ not-false _ (t .if2 .left)), refl)
 
 pub load-evaluations-spec : {M : Type 1} → statement M
 load-evaluations-spec =

@@ -34,7 +34,7 @@ module _ (n : ℕ) (x : Masks) where
 -- one mask more
 loaded : (p : Params) (h : state.Held) (more : Masks) (op : List ℕ) (mask : List ℤ)
     → h .masks .count < 8 → mask ≡ maskOf p op → within (p .k) (maskOf p op) ≡ true → masksHeld (p .n) more ≡ masksHeld (p .n) (h .masks) ++ (mask ∷ [])
-    → doneIn p (record { number = 0; held = record { set = h .set; points = h .points; key = h .key; evaluations = h .evaluations; masks = more; message = h .message } }) nothing
+    → doneIn p (record { number = 0; held = record { set = h .set; exponents = h .exponents; key = h .key; evaluations = h .evaluations; masks = more; message = h .message } }) nothing
     ≡ loadMask (chosenIn p (h .set)) (heldIn p h) op
 unfolding loadMask heldIn
 loaded p h more op mask few is small e = rw (spare (p .n) (h .masks) few, small, e, is)

@@ -5,7 +5,7 @@ use Rattle.session_signing.proofs.can_sign.Statement.{statement}
 use Rattle.session_signing.proofs.can_sign.Tie as tie
 
 returns : tie.Need-returns
-returns c = rw (c .before .has-points .ensures)
+returns c = rw (c .before .has-exponents .ensures)
 
 pub can-sign-spec : {M : Type 1} → statement M
 can-sign-spec = tie.close (tie.spec (λ c κs. search needs) returns)

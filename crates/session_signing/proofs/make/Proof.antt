@@ -9,21 +9,21 @@ use lib.ListN.{length, take, drop, replicate}
 use lib.Seq.{length-take-le, take-at}
 use borrow.Author.Needs.{needs}
 use Rattle.encoding.specs.Encoding.{secretKeySize, signatureSize}
-use Rattle.entry_sign.specs.Sign.{signAnswer, signWritten}
+use Rattle.signing.specs.Sign.{signAnswer, signWritten}
 use Rattle.session_state.specs.State.{masksHeld}
 use Rattle.algebra.proofs.List.{take-replicate}
 use Rattle.encoding.proofs.Parts.{flatten-parts}
 use Rattle.session_state.proofs.MaskList.{room}
-use Rattle.session_state.proofs.Room.{points-room, signature-room}
+use Rattle.session_state.proofs.Room.{exponents-room, signature-room}
 use Rattle.session_signing.proofs.make.Statement.{statement}
 use Rattle.session_signing.proofs.make.Tie as tie
 
 -- the lengths of what is held
 module _ (s : tie.Start) where
-  points-fit : s .args .p .t ≤ length (s .args .h .points .list)
-  points-fit =
-      let size : length (s .args .h .points .list) ≡ 1152 = search needs in
-      omega (arith, points-room (s .pre))
+  exponents-fit : s .args .p .t ≤ length (s .args .h .exponents .list)
+  exponents-fit =
+      let size : length (s .args .h .exponents .list) ≡ 1152 = search needs in
+      omega (arith, exponents-room (s .pre))
 
   numbers-size : length (s .args .h .masks .numbers) ≡ 9224
   numbers-size = search needs
@@ -49,12 +49,12 @@ slice-aggregate-sign c =
     sym (length-take-le (secretKeySize p) (k .secret-held .result) (array-share-prefix-secret k))
 
 array-share-prefix-list : tie.Need-array-share-prefix-list
-array-share-prefix-list c = points-fit (c .before .before .before .before .before .before .before)
+array-share-prefix-list c = exponents-fit (c .before .before .before .before .before .before .before)
 
 slice-aggregate-sign-2 : tie.Need-slice-aggregate-sign-2
 slice-aggregate-sign-2 c =
     let s = c .before .before .before .before .before .before .before .before in
-    sym (length-take-le (s .args .p .t) (s .args .h .points .list) (points-fit s))
+    sym (length-take-le (s .args .p .t) (s .args .h .exponents .list) (exponents-fit s))
 
 array-share-prefix-numbers : tie.Need-array-share-prefix-numbers
 array-share-prefix-numbers c =
@@ -101,13 +101,13 @@ returns c =
     let s = start c in
     let a = s .args in
     let size = signatureSize (a .p) in
-    let points = take (a .p .t) (a .h .points .list) in
+    let exponents = take (a .p .t) (a .h .exponents .list) in
     let w = c .before .sign in
     let key = secret c .secret-held .ensures in
     let zeros = take-replicate {A = ℕ} size 2435 0 (signature-room (s .pre)) in (
-      w .ensures .0 ∙ same (λ (k : List ℕ) (ys : List ℤ) (out : List ℕ). signAnswer k points ys (a .h .message .bytes) out) key (masks-lent c) zeros,
+      w .ensures .0 ∙ same (λ (k : List ℕ) (ys : List ℤ) (out : List ℕ). signAnswer k exponents ys (a .h .message .bytes) out) key (masks-lent c) zeros,
       take-at (w .last .1 .1 .1 .1 .0) (drop size (replicate 2435 0)) size (w .kept .1 .1 .1 .1 .0 ∙ sym (slice-aggregate-sign-5 (c .before .before)))
-          ∙ w .ensures .1 ∙ same (λ (k : List ℕ) (ys : List ℤ) (out : List ℕ). signWritten k points ys (a .h .message .bytes) out) key (masks-lent c) zeros,
+          ∙ w .ensures .1 ∙ same (λ (k : List ℕ) (ys : List ℤ) (out : List ℕ). signWritten k exponents ys (a .h .message .bytes) out) key (masks-lent c) zeros,
     )
 
 pub make-spec : {M : Type 1} → statement M

@@ -13,11 +13,11 @@ use Rattle.parameters.specs.declared.Params.{Params}
 use Rattle.parameters.specs.Sound.{Fitting}
 use Rattle.parameters.proofs.Lookup.{lookup-fitting}
 use Rattle.encoding.specs.Encoding.{signatureSize}
-use Rattle.answers.specs.declared.Signing.{Signing}
-use Rattle.entry_sign.specs.Sign.{signAnswer, signWritten}
+use Rattle.refusal.specs.declared.Signing.{Signing}
+use Rattle.signing.specs.Sign.{signAnswer, signWritten}
 use Rattle.session_rules.specs.Commands.{Done, refused, signatureRoom, afterSigning, sign}
 use Rattle.session_state.specs.declared.Held.{Held}
-use Rattle.session_state.specs.State.{hasPoints, masksHeld, chosenIn, heldIn}
+use Rattle.session_state.specs.State.{hasExponents, masksHeld, chosenIn, heldIn}
 use Rattle.session_state.proofs.Needing.{all-held, one-lacks}
 use Rattle.session_state.proofs.Room.{signature-room}
 use Rattle.session_signing.proofs.sign_held.Statement.{statement}
@@ -26,30 +26,30 @@ use Rattle.session_signing.proofs.sign_held.Tie as tie
 -- what command 06 does, by what is held
 module _ (p : Params) (h : Held) where
   abbrev answerOf : List ℕ → List ℕ → List ℕ → Signing
-  answerOf points key message = signAnswer (h .set ∷ key) points (flatten (masksHeld (p .n) (h .masks))) message (signatureRoom p)
+  answerOf exponents key message = signAnswer (h .set ∷ key) exponents (flatten (masksHeld (p .n) (h .masks))) message (signatureRoom p)
 
   abbrev writtenBy : List ℕ → List ℕ → List ℕ → List ℕ
-  writtenBy points key message = signWritten (h .set ∷ key) points (flatten (masksHeld (p .n) (h .masks))) message (signatureRoom p)
+  writtenBy exponents key message = signWritten (h .set ∷ key) exponents (flatten (masksHeld (p .n) (h .masks))) message (signatureRoom p)
 
   abbrev signedWith : List ℕ → List ℕ → List ℕ → Done
-  signedWith points key message = afterSigning (chosenIn p (h .set)) (heldIn p h) (answerOf points key message) (writtenBy points key message)
+  signedWith exponents key message = afterSigning (chosenIn p (h .set)) (heldIn p h) (answerOf exponents key message) (writtenBy exponents key message)
 
-  abbrev points : List ℕ
-  points = take (p .t) (h .points .list)
+  abbrev exponents : List ℕ
+  exponents = take (p .t) (h .exponents .list)
 
   abbrev key : List ℕ
   key = take (p .n) (h .key .bytes)
 
-  lacking : hasPoints p (h .points) && (h .key .held && h .message .held) ≡ false → sign (chosenIn p (h .set)) (heldIn p h) ≡ refused 10 (heldIn p h)
+  lacking : hasExponents p (h .exponents) && (h .key .held && h .message .held) ≡ false → sign (chosenIn p (h .set)) (heldIn p h) ≡ refused 10 (heldIn p h)
   unfolding sign heldIn
-  lacking e = one-lacks points key (h .message .bytes) (heldIn p h) signedWith (hasPoints p (h .points)) (h .key .held) (h .message .held) e
+  lacking e = one-lacks exponents key (h .message .bytes) (heldIn p h) signedWith (hasExponents p (h .exponents)) (h .key .held) (h .message .held) e
 
   answered : {a : Signing} {bytes : List ℕ}
-      → hasPoints p (h .points) && (h .key .held && h .message .held) ≡ true
-      → a ≡ answerOf points key (h .message .bytes) → bytes ≡ writtenBy points key (h .message .bytes)
+      → hasExponents p (h .exponents) && (h .key .held && h .message .held) ≡ true
+      → a ≡ answerOf exponents key (h .message .bytes) → bytes ≡ writtenBy exponents key (h .message .bytes)
       → sign (chosenIn p (h .set)) (heldIn p h) ≡ afterSigning (chosenIn p (h .set)) (heldIn p h) a bytes
   unfolding sign heldIn
-  answered e a b = rw (a, b) (all-held points key (h .message .bytes) (heldIn p h) signedWith (hasPoints p (h .points)) (h .key .held) (h .message .held) e)
+  answered e a b = rw (a, b) (all-held exponents key (h .message .bytes) (heldIn p h) signedWith (hasExponents p (h .exponents)) (h .key .held) (h .message .held) e)
 
 fitting : (s : tie.Start) → Fitting (s .args .p)
 fitting s = lookup-fitting (s .args .h .set) (s .pre .0 .0) (s .pre .0 .1)

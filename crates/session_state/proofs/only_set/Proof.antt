@@ -12,7 +12,7 @@ use Rattle.session_state.specs.State.{whenHeld, chosenIn, setHeld, heldI
 use Rattle.session_state.proofs.only_set.Statement.{statement}
 use Rattle.session_state.proofs.only_set.Tie as tie
 
-blank : (h : state.Held) → h .points .held ≡ false → h .key .held ≡ false → h .evaluations .held ≡ false → h .masks .count ≡ 0 → h .message .held ≡ false
+blank : (h : state.Held) → h .exponents .held ≡ false → h .key .held ≡ false → h .evaluations .held ≡ false → h .masks .count ≡ 0 → h .message .held ≡ false
     → heldOf h ≡ onlySet (setHeld (h .set))
 unfolding heldOf heldIn
 blank h a b c d e = rw (a, b, c, d, e) (by (isSet (h .set)))
@@ -24,7 +24,7 @@ blank h a b c d e = rw (a, b, c, d, e) (by (isSet (h .set)))
 returns : tie.Need-returns
 returns c =
     let m = c .before .before .before .before in
-    blank _ (m .no-points .ensures) (c .before .before .before .no-key .ensures) (c .before .before .no-evaluations .ensures) (c .before .no-masks .ensures) (c .no-message .ensures)
+    blank _ (m .no-exponents .ensures) (c .before .before .before .no-key .ensures) (c .before .before .no-evaluations .ensures) (c .before .no-masks .ensures) (c .no-message .ensures)
 
 pub only-set-spec : {M : Type 1} → statement M
 only-set-spec =

@@ -4,7 +4,7 @@ use mathlib.Core.Path.{sym, ap, ap₂, _∙_}
 use mathlib.Core.List.{_++_}
 use Prim.Native.Nat.{_+_, _*_, _/_}
 use lib.ListN.{length, length-append}
-use Rattle.sha512_functions.specs.Constants.{H0}
+use Rattle.sha512.specs.Constants.{H0}
 use Rattle.sha512.specs.Padding.{ending, pad}
 use Rattle.sha512.specs.Digest.{hashValue, bytesOf, SHA-512}
 use Rattle.sha512.proofs.Chain.{hash-two, part-to-end}

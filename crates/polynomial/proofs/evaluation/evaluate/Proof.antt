@@ -23,7 +23,7 @@ returns : tie.Need-returns
 returns c =
     let s = c .before .before .before .before .before .before .before .before .before in
     let g = c .before .before .before .before .before .residues-of in
-    c .before .before .evaluations-of .ensures ∙ front-evaluations (s .pre .0) (g .result) (g .ensures) (s .args .points .now)
+    c .before .before .evaluations-of .ensures ∙ front-evaluations (s .pre .0) (g .result) (g .ensures) (s .args .exponents .now)
 
 pub evaluate-spec : {M : Type 1} → statement M
 evaluate-spec =

@@ -13,11 +13,11 @@ use Rattle.polynomial.proofs.evaluation.evaluations_of.Statement.{state
 use Rattle.polynomial.proofs.evaluation.evaluations_of.Tie as tie
 
 abbrev Inv-loop : tie.InvT-loop
-Inv-loop p powers residues points out₀ i₀ out i =
-    (i ≤ length points) × (length out ≡ length points) × Mapped (evaluation p (map pos residues)) points out i
+Inv-loop p powers residues exponents out₀ i₀ out i =
+    (i ≤ length exponents) × (length out ≡ length exponents) × Mapped (evaluation p (map pos residues)) exponents out i
 
 abbrev μ-loop : tie.MeasureT-loop
-μ-loop p powers residues points out₀ i₀ out i = length points - i
+μ-loop p powers residues exponents out₀ i₀ out i = length exponents - i
 
 loop-holds : tie.Need-loop-holds Inv-loop μ-loop
 loop-holds c = (search needs, c .before .before .before .before .pre .1 .1 .1, refl)
@@ -36,7 +36,7 @@ loop-again c =
     let l = c .before .before .before .loop in (
       omega arith,
       simp length-set (l .inv .1),
-      mapped-more (evaluation (s .args .p) (map pos (s .args .residues .now))) (s .args .points .now) (l .out) (l .i) 0 (omega arith) (omega arith) (l .inv .2)
+      mapped-more (evaluation (s .args .p) (map pos (s .args .residues .now))) (s .args .exponents .now) (l .out) (l .i) 0 (omega arith) (omega arith) (l .inv .2)
           (c .evaluation-of .ensures),
     )
 
@@ -48,7 +48,7 @@ unfolding evaluations
 returns c =
     let s = c .before .before .before .before .before .before in
     let l = c .before .loop in
-    mapped-all (evaluation (s .args .p) (map pos (s .args .residues .now))) (s .args .points .now) (l .out) (l .i) (omega arith) (omega arith) (l .inv .2)
+    mapped-all (evaluation (s .args .p) (map pos (s .args .residues .now))) (s .args .exponents .now) (l .out) (l .i) (omega arith) (omega arith) (l .inv .2)
 
 pub evaluations-of-spec : {M : Type 1} → statement M
 evaluations-of-spec =

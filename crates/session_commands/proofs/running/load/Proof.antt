@@ -5,11 +5,11 @@ use native.Mathlib.Omega.{arith}
 use Rattle.session_commands.proofs.running.load.Statement.{statement}
 use Rattle.session_commands.proofs.running.load.Tie as tie
 
-load-points-requires : tie.Need-load-points-requires
-load-points-requires c κs = let s = c .before .before in (s .pre .0, rw (c .if1 .taken) at (s .pre .1 .1))
+load-exponents-requires : tie.Need-load-exponents-requires
+load-exponents-requires c κs = let s = c .before .before in (s .pre .0, rw (c .if1 .taken) at (s .pre .1 .1))
 
 returns : tie.Need-returns
-returns c = rw (c .before .if1 .taken) (c .load-points .ensures)
+returns c = rw (c .before .if1 .taken) (c .load-exponents .ensures)
 
 load-mask-requires : tie.Need-load-mask-requires
 load-mask-requires c κs = let s = c .before .before .before in (s .pre .0, rw (c .if2 .taken) at (s .pre .1 .1))
@@ -40,4 +40,4 @@ returns-4 c =
 
 pub load-spec : {M : Type 1} → statement M
 load-spec =
-    tie.close (tie.spec load-points-requires returns load-mask-requires returns-2 load-message-requires returns-3 load-evaluations-requires returns-4)
+    tie.close (tie.spec load-exponents-requires returns load-mask-requires returns-2 load-message-requires returns-3 load-evaluations-requires returns-4)

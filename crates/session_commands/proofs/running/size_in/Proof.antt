@@ -8,7 +8,7 @@ use Rattle.session_commands.proofs.running.size_in.Statement.{statement
 use Rattle.session_commands.proofs.running.size_in.Tie as tie
 
 returns : tie.Need-returns
-returns c = (rw (c .before .match .keys1) refl, omega (arith, c .before .before .pre .size, c .before .before .pre .points))
+returns c = (rw (c .before .match .keys1) refl, omega (arith, c .before .before .pre .size, c .before .before .pre .exponents))
 
 returns-2 : tie.Need-returns-2
 returns-2 c = (rw (c .match .keys2) refl, omega (arith, c .before .pre .size))
@@ -23,7 +23,7 @@ returns-5 : tie.Need-returns-5
 returns-5 c = (rw (c .before .before .match .keys5) refl, omega (arith, c .before .before .before .pre .size, c .before .before .before .pre .weight))
 
 returns-6 : tie.Need-returns-6
-returns-6 c = (rw (c .before .match .keys6) refl, omega (arith, c .before .before .pre .size, c .before .before .pre .points))
+returns-6 c = (rw (c .before .match .keys6) refl, omega (arith, c .before .before .pre .size, c .before .before .pre .exponents))
 
 returns-7 : tie.Need-returns-7
 returns-7 c =

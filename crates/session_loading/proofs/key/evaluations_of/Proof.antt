@@ -13,19 +13,19 @@ use Rattle.parameters.specs.declared.Params.{Params}
 use Rattle.parameters.specs.Sets.{setOf}
 use Rattle.parameters.specs.Sound.{Fitting}
 use Rattle.polynomial.specs.Evaluation.{evaluation, evaluations}
-use Rattle.encoding.specs.Encoding.{keyCoefficient, arePoints}
-use Rattle.entry_values.specs.Evaluate.{evaluateRefusalIn, evaluateRefusal, evaluateWritten}
+use Rattle.encoding.specs.Encoding.{keyCoefficient, areExponents}
+use Rattle.values.specs.Evaluate.{evaluateRefusalIn, evaluateRefusal, evaluateWritten}
 use Rattle.parameters.proofs.Lookup.{lookup-fitting}
-use Rattle.session_state.proofs.InFront.{InFront, stored, points-lent}
-use Rattle.session_state.proofs.Room.{points-room}
+use Rattle.session_state.proofs.InFront.{InFront, stored, exponents-lent}
+use Rattle.session_state.proofs.Room.{exponents-room}
 use Rattle.session_loading.proofs.key.evaluations_of.Statement.{statement}
 use Rattle.session_loading.proofs.key.evaluations_of.Tie as tie
 
 -- an evaluation that is not refused
-written : {p : Params} (s : ℕ) (f : List ℤ) (points out : List ℕ) → s < 5 → p ≡ setOf s
-    → length f ≡ p .n → length points ≡ p .t → length out ≡ p .t → arePoints p points ≡ true → evaluateWritten s f points out ≡ evaluations p f points
+written : {p : Params} (s : ℕ) (f : List ℤ) (exponents out : List ℕ) → s < 5 → p ≡ setOf s
+    → length f ≡ p .n → length exponents ≡ p .t → length out ≡ p .t → areExponents p exponents ≡ true → evaluateWritten s f exponents out ≡ evaluations p f exponents
 unfolding evaluateWritten evaluateRefusal evaluateRefusalIn
-written s f points out known is a b d rise = rw (lt-ltb s 5 known, ← is, eq-eqb _ _ a, eq-eqb _ _ b, eq-eqb _ _ d, rise)
+written s f exponents out known is a b d rise = rw (lt-ltb s 5 known, ← is, eq-eqb _ _ a, eq-eqb _ _ b, eq-eqb _ _ d, rise)
 
 fitting : (c : tie.Start) → Fitting (c .args .p)
 fitting c = lookup-fitting (c .args .set) (c .pre .0 .0) (c .pre .0 .1)
@@ -57,10 +57,10 @@ slice-aggregate-evaluate : tie.Need-slice-aggregate-evaluate
 slice-aggregate-evaluate c = coefficients (c .before .before) .count
 
 array-borrow-prefix-values : tie.Need-array-borrow-prefix-values
-array-borrow-prefix-values c = points-room (fitting (c .before .before .before .before .before .before))
+array-borrow-prefix-values c = exponents-room (fitting (c .before .before .before .before .before .before))
 
 slice-aggregate-evaluate-2 : tie.Need-slice-aggregate-evaluate-2
-slice-aggregate-evaluate-2 c = points-lent (fitting (c .before .before .before .before .before .before .before))
+slice-aggregate-evaluate-2 c = exponents-lent (fitting (c .before .before .before .before .before .before .before))
 
 returns : tie.Need-returns
 unfolding evaluations
@@ -70,9 +70,9 @@ returns c =
     let a = s .args in
     let key = map keyCoefficient (a .key .now) in
     let out = take {A = ℕ} (a .p .t) (replicate 1152 0) in
-    stored (a .p .t) (drop (a .p .t) (replicate 1152 0)) (length-map (a .points .now) (evaluation (a .p) key) ∙ s .pre .1 .1)
-    (c .before .evaluate .ensures .1 ∙ ap (λ (f : List ℤ). evaluateWritten (a .set) f (a .points .now) out) (coefficients r .front)
-    ∙ written (a .set) key (a .points .now) out (s .pre .0 .0) (s .pre .0 .1) (key-size s) (s .pre .1 .1) (sym (slice-aggregate-evaluate-2 (c .before .before))) (s .pre .1 .2)) .front
+    stored (a .p .t) (drop (a .p .t) (replicate 1152 0)) (length-map (a .exponents .now) (evaluation (a .p) key) ∙ s .pre .1 .1)
+    (c .before .evaluate .ensures .1 ∙ ap (λ (f : List ℤ). evaluateWritten (a .set) f (a .exponents .now) out) (coefficients r .front)
+    ∙ written (a .set) key (a .exponents .now) out (s .pre .0 .0) (s .pre .0 .1) (key-size s) (s .pre .1 .1) (sym (slice-aggregate-evaluate-2 (c .before .before))) (s .pre .1 .2)) .front
 
 pub evaluations-of-spec : {M : Type 1} → statement M
 evaluations-of-spec =

@@ -16,12 +16,12 @@ use Rattle.session_state.specs.declared.Held as state
 use Rattle.session_state.specs.State.{heldIn}
 use Rattle.session_state.specs.Ran.{withKey}
 use Rattle.session_state.proofs.InFront.{stored}
-use Rattle.session_state.proofs.Room.{points-room}
+use Rattle.session_state.proofs.Room.{exponents-room}
 use Rattle.session_loading.proofs.key.with_key.Statement.{statement}
 use Rattle.session_loading.proofs.key.with_key.Tie as tie
 
 loaded : (p : Params) (h : state.Held) (bytes list : List ℕ) {op vs : List ℕ} → take (p .n) bytes ≡ op → take (p .t) list ≡ vs
-    → heldIn p (record { set = h .set; points = h .points; key = record { held = true; bytes = bytes }; evaluations = record { held = true; list = list }; masks = h .masks; message = h .message })
+    → heldIn p (record { set = h .set; exponents = h .exponents; key = record { held = true; bytes = bytes }; evaluations = record { held = true; list = list }; masks = h .masks; message = h .message })
     ≡ withKey (heldIn p h) op vs
 unfolding heldIn
 loaded p h bytes list a b = rw (a, b)
@@ -29,21 +29,21 @@ loaded p h bytes list a b = rw (a, b)
 fitting : (c : tie.Start) → Fitting (c .args .p)
 fitting c = lookup-fitting (c .args .h .set) (c .pre .0 .0) (c .pre .0 .1)
 
-room : (c : tie.Start) → length (c .args .h .points .list) ≡ 1152
+room : (c : tie.Start) → length (c .args .h .exponents .list) ≡ 1152
 room c = search needs
 
 array-share-prefix-list : tie.Need-array-share-prefix-list
-array-share-prefix-list c = let s = c .before .before .before in omega (arith, room s, points-room (fitting s))
+array-share-prefix-list c = let s = c .before .before .before in omega (arith, room s, exponents-room (fitting s))
 
 slice-aggregate-evaluations-of : tie.Need-slice-aggregate-evaluations-of
 slice-aggregate-evaluations-of c =
     let a = c .before .before .before .before .args in
-    sym (length-take-le (a .p .t) (a .h .points .list) (array-share-prefix-list (c .before)))
+    sym (length-take-le (a .p .t) (a .h .exponents .list) (array-share-prefix-list (c .before)))
 
 evaluations-of-requires : tie.Need-evaluations-of-requires
 evaluations-of-requires c κs =
     let s = c .before .before .before .before in
-    (s .pre .0, (s .pre .1 .0, sym (slice-aggregate-evaluations-of c), holds-true _ (and-right (s .args .h .points .held) _ (true-holds (s .pre .1 .1)))))
+    (s .pre .0, (s .pre .1 .0, sym (slice-aggregate-evaluations-of c), holds-true _ (and-right (s .args .h .exponents .held) _ (true-holds (s .pre .1 .1)))))
 
 array-borrow-prefix-bytes : tie.Need-array-borrow-prefix-bytes
 array-borrow-prefix-bytes c = fitting (c .before .before .before .before .before) .size

@@ -1,7 +1,7 @@
 -- `next_word` is nextWord: each sum is modulo 2 ^ 64.
 -- Assumes nothing.
 use mathlib.Core.Path.{refl, ap₂, _∙_}
-use Rattle.sha512_functions.specs.Word.{add}
+use Rattle.sha512.specs.Word.{add}
 use Rattle.sha512.specs.Compression.{nextWord}
 use borrow.Author.Needs.{needs}
 use Rattle.sha512.proofs.compression.next_word.Statement.{statement}

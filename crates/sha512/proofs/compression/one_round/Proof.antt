@@ -3,7 +3,7 @@
 use mathlib.Core.Path.{ap, ap₂, _∙_}
 use mathlib.Core.List.{[], _∷_}
 use lib.ListN.{getD}
-use Rattle.sha512_functions.specs.Word.{add}
+use Rattle.sha512.specs.Word.{add}
 use Rattle.sha512.specs.Compression.{round}
 use borrow.Author.Needs.{needs}
 use Rattle.sha512.proofs.compression.one_round.Statement.{statement}

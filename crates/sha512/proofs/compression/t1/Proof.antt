@@ -1,7 +1,7 @@
 -- `t1` is T1: each sum is modulo 2 ^ 64.
 -- Assumes nothing.
 use mathlib.Core.Path.{refl, ap₂, _∙_}
-use Rattle.sha512_functions.specs.Word.{add}
+use Rattle.sha512.specs.Word.{add}
 use Rattle.sha512.specs.Compression.{T1}
 use borrow.Author.Needs.{needs}
 use Rattle.sha512.proofs.compression.t1.Statement.{statement}

@@ -1,7 +1,7 @@
 -- `t2` is T2: the sum is modulo 2 ^ 64.
 -- Assumes nothing.
 use mathlib.Core.Path.{ap₂, _∙_}
-use Rattle.sha512_functions.specs.Word.{add}
+use Rattle.sha512.specs.Word.{add}
 use Rattle.sha512.specs.Compression.{T2}
 use borrow.Author.Needs.{needs}
 use Rattle.sha512.proofs.compression.t2.Statement.{statement}

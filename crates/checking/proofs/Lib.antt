@@ -1,0 +1,4 @@
+pub mod Allowed
+pub mod Recovery
+pub mod Comparison
+pub mod Verdict

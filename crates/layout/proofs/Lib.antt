@@ -1,2 +1,0 @@
-pub mod EncodedKey
-pub mod Evaluating

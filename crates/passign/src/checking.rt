@@ -1,2 +1,0 @@
-// Checking as an entry.
-pub use entry_check::check;

@@ -1,2 +1,0 @@
-// The drawer as an entry.
-pub use entry_values::drawing::draw;

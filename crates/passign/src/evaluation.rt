@@ -1,2 +1,0 @@
-// The evaluator as an entry.
-pub use entry_values::evaluation::evaluate;

@@ -1,2 +1,0 @@
-// Signing as an entry.
-pub use entry_sign::sign;

@@ -1,0 +1,16 @@
+-- `wide` meets its contract: a number of 16 bits is read back from its bits, and fits 32.
+-- Assumes nothing.
+use mir.Facts.{toZ-ofZ, sfits-widen}
+use mir.Syntax.{w16, w32}
+use Rattle.algebra.proofs.Signed.{widened}
+use Rattle.polynomial.proofs.product.wide.Statement.{statement}
+use Rattle.polynomial.proofs.product.wide.Tie as tie
+
+cast-result : tie.Need-cast-result
+cast-result c = rw (toZ-ofZ (c .fits .a)) (sfits-widen {w = w16} {w′ = w32} tt (c .fits .a))
+
+returns : tie.Need-returns
+returns c = widened (c .fits .a) w32 tt
+
+pub wide-spec : {M : Type 1} → statement M
+wide-spec = tie.close (tie.spec cast-result returns)

@@ -1,0 +1,62 @@
+-- What the entries' definitions share: messages too long, the set of an encoding, refusal numbers (0 for none), and document 01's number for each case of
+-- an answer.
+-- Assumes nothing.
+use mathlib.Core.Bool.{Bool, not}
+use mathlib.Core.List.{List}
+use Prim.Native.Nat.{ℕ, zero, suc, _+_}
+use lib.Dec.{ltb, eqb}
+use lib.ListN.{length, getD}
+use Rattle.algebra.specs.Choice.{pick}
+use Rattle.parameters.specs.declared.Params.{Params}
+use Rattle.parameters.specs.Sets.{isSet, setOf}
+use Rattle.refusal.specs.declared.Answer.{Answer}
+use Rattle.refusal.specs.declared.Answer.the-variants.{Done, Refused}
+use Rattle.refusal.specs.declared.Signing.{Signing}
+use Rattle.refusal.specs.declared.Signing.the-variants as signing
+use Rattle.refusal.specs.declared.Verdict.{Verdict}
+use Rattle.refusal.specs.declared.Verdict.the-variants as verdict
+
+-- an encoding's first byte is its set
+abbrev pub setByte : List ℕ → ℕ
+setByte xs = getD xs 0 0
+
+-- the parameters of that set
+abbrev pub setIn : List ℕ → Params
+setIn xs = setOf (setByte xs)
+
+-- a message of more than 65,535 bytes is too long
+abbrev pub isLong : List ℕ → Bool
+isLong message = ltb 65535 (length message)
+
+-- 2 for a number that is no set, else the refusal number that the set decides
+abbrev pub inSet : ℕ → (Params → ℕ) → ℕ
+inSet s refusal = pick (not (isSet s)) 2 (refusal (setOf s))
+
+-- 1 for an empty encoding, then the set of its first byte
+abbrev pub inSetOf : List ℕ → (Params → ℕ) → ℕ
+inSetOf xs refusal = pick (eqb (length xs) 0) 1 (inSet (setByte xs) refusal)
+
+-- the answer with this refusal number, 0 for none
+abbrev pub answerOf : ℕ → Answer
+answerOf zero = Done
+answerOf (suc n) = Refused (suc n)
+
+-- a buffer after a call with this refusal number: what is written, or as it was
+abbrev pub unlessRefused : {A : Type 0} → ℕ → List A → List A → List A
+unlessRefused n written before = pick (eqb n 0) written before
+
+-- to C: 0 for done, else the refusal number
+abbrev pub numberOf : Answer → ℕ
+numberOf Done = 0
+numberOf (Refused n) = n
+
+-- to C: 256 plus the number passed over, else the refusal number
+abbrev pub signingNumber : Signing → ℕ
+signingNumber (signing.Signed n) = 256 + n
+signingNumber (signing.Refused n) = n
+
+-- to C: 0 for no, 256 for yes, else the refusal number
+abbrev pub verdictNumber : Verdict → ℕ
+verdictNumber verdict.Yes = 256
+verdictNumber verdict.No = 0
+verdictNumber (verdict.Refused n) = n

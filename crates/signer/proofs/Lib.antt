@@ -1,4 +1,0 @@
-pub mod EntryCount
-pub mod Answer
-pub mod Masks
-pub mod Offers

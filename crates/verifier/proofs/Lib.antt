@@ -1,3 +1,0 @@
-pub mod Recovery
-pub mod Comparison
-pub mod Verdict
