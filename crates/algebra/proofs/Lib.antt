@@ -1,12 +1,12 @@
 pub mod Test
 pub mod All
-pub mod Loop
 pub mod Ring
 pub mod Absolute
 pub mod Remainder
 pub mod Congruence
 pub mod Sum
 pub mod List
+pub mod Filling
 pub mod Powers
 pub mod Signed
-pub mod Widening
+pub mod Front

@@ -1,8 +1,9 @@
--- Remainders of natural numbers: of products, of powers, and of a place that goes round a table.
+-- Remainders of natural numbers: of products and of powers.
 -- Assumes nothing.
 use mathlib.Core.Path.{_≡_, sym, ap, _∙_}
 use Prim.Native.Nat.{ℕ, zero, suc, _+_, _-_, _*_, _/_, _%_, _^_, _<_, _≤_}
-use native.Mathlib.Nat.{mod-lt, mod-eq-of-lt, mod-eq-sub-mod, mul-add-mod-self-right, div-add-mod', mul-right-comm, add-mul, suc-mul, zero-mul, one-mul, le-of-lt, mul-le-mul-left, mul-lt-mul-of-pos-right, lt-of-le-of-lt}
+use native.Mathlib.Nat.{mod-eq-of-lt, mod-eq-sub-mod, mul-add-mod-self-right, div-add-mod', mul-right-comm, add-mul, suc-mul, zero-mul, one-mul}
+use native.Mathlib.Nat.{le-of-lt, mul-le-mul-left, mul-lt-mul-of-pos-right, lt-of-le-of-lt}
 use native.Mathlib.Omega.{arith}
 use lib.Pow.{pow-add}
 
@@ -17,13 +18,7 @@ mod-mul-left a b q =
 pub product-below : {a b m n : ℕ} → a < m → b < n → a * b < m * n
 product-below {a} {b} {m} {n} h l = lt-of-le-of-lt (mul-le-mul-left a (le-of-lt l)) (mul-lt-mul-of-pos-right h (omega arith))
 
-pub mod-below-pred : (n q : ℕ) → 0 < q → n % q ≤ q - 1
-mod-below-pred n q h = omega (arith, mod-lt n h)
-
--- a sum of two numbers below n goes round at most once
-pub round-none : {n : ℕ} (s : ℕ) → s < n → s ≡ s % n
-round-none s h = sym (mod-eq-of-lt h)
-
+-- below twice n a number goes round at most once
 pub round-once : {n : ℕ} (s : ℕ) → n ≤ s → s < n + n → s - n ≡ s % n
 round-once {n} s h l = sym (mod-eq-sub-mod h ∙ mod-eq-of-lt (omega arith))
 

@@ -1,18 +1,20 @@
--- A number of a signed type: a bound that makes it fit; by its sign, what a test against 0 and the complement -1 - z say of it; and in a wider
--- type. Over any width.
+-- A number of a signed type, over any width: a bound that makes it fit; by its sign, what a test against 0 and the complement -1 - z say of it; and in a
+-- wider type, where a loop copies numbers.
 -- Assumes nothing.
 use mathlib.Core.Path.{_≡_, refl, ap, _∙_}
 use mathlib.Core.Bool.{true, false}
-use Prim.Native.Nat.{ℕ, suc, _^_, _<_, _≤_}
-use native.Mathlib.Nat.{le-of-lt}
+use mathlib.Core.List.{List}
+use Prim.Native.Nat.{ℕ, suc, _+_, _^_, _<_}
 use native.Mathlib.Omega.{arith}
 use lib.Dec.{T, leb}
 use lib.IntN.{ℤ, pos, negsuc, _-ℤ_, natAbs}
+use lib.ListN.{length, getD, take, set}
 use lib.Signed.{mag, ltZ}
 use mir.Syntax.{Width}
 use mir.Val.{SFits, toZ, ofZ, hbits}
 use mir.Facts.{toZ-ofZ, sfits-widen}
 use borrow.Author.Tests.{ltb-true, le-ltb}
+use Rattle.algebra.proofs.List.{copy-more}
 
 -- a number fits a signed width where its absolute value does
 pub fits-signed : (w : Width) (z : ℤ) → natAbs z < 2 ^ hbits w → SFits w z
@@ -31,11 +33,6 @@ not-below-zero (negsuc n) t = let e : _≡_ {A = ℕ} 0 1 = cc in absurd (omega 
 complement : (n : ℕ) → negsuc 0 -ℤ negsuc n ≡ pos n
 complement n = rw (le-ltb (suc n) 1 (omega arith)) (ap pos (omega arith))
 
--- the absolute value of a number of a signed type is at most that of the least number
-pub abs-below : (z : ℤ) {n : ℕ} → mag z < n → natAbs z ≤ n
-abs-below (pos a) h = le-of-lt h
-abs-below (negsuc a) h = h
-
 module _ {w : Width} {z : ℤ} (fits : SFits w z) where
   pub negative : ltZ (toZ w (ofZ w z)) (pos 0) ≡ true → z ≡ negsuc (mag z)
   negative t = below-zero z (rw (toZ-ofZ fits) at t)
@@ -51,3 +48,20 @@ module _ {w : Width} {z : ℤ} (fits : SFits w z) where
 
   pub widened : (v : Width) → T (leb (hbits w) (hbits v)) → toZ v (ofZ v (toZ w (ofZ w z))) ≡ z
   widened v l = rw (toZ-ofZ fits) (toZ-ofZ (sfits-widen {w = w} {w′ = v} l fits))
+
+-- element i of a list, as a wider number
+module _ (w v : Width) (wider : T (leb (hbits w) (hbits v))) (a : List ℤ) (i : ℕ) (fits : mag (getD a i (pos 0)) < 2 ^ hbits w) where
+  pub fits-wider : SFits v (toZ w (ofZ w (getD a i (pos 0))))
+  fits-wider = let e : SFits w (getD a i (pos 0)) = record { sfits = fits } in rw (toZ-ofZ e) (sfits-widen {w = w} {w′ = v} wider e)
+
+  pub read-wider : toZ v (ofZ v (toZ w (ofZ w (getD a i (pos 0))))) ≡ getD a i (pos 0)
+  read-wider = widened (record { sfits = fits }) v wider
+
+  -- one place more
+  pub wider-more : (out : List ℤ) → i < length out → i < length a → take i out ≡ take i a
+      → take (i + 1) (set out i (toZ v (ofZ v (toZ w (ofZ w (getD a i (pos 0))))))) ≡ take (i + 1) a
+  wider-more out h k e = copy-more out a i _ (pos 0) h k e read-wider
+
+-- element i of a list, read at its own width
+pub read-same : (w : Width) (a : List ℤ) (i : ℕ) → mag (getD a i (pos 0)) < 2 ^ hbits w → toZ w (ofZ w (getD a i (pos 0))) ≡ getD a i (pos 0)
+read-same w a i fits = toZ-ofZ {w = w} (record { sfits = fits })

@@ -1,4 +1,3 @@
 pub mod All
-pub mod Choice
 pub mod Integer
 pub mod Powers

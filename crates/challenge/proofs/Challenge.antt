@@ -12,11 +12,12 @@ use lib.IntN.{ℤ, pos, natAbs}
 use lib.ListN.{length, set, replicate, length-append, length-set, length-replicate, getD-replicate}
 use lib.Seq.{getD-set-other}
 use Rattle.algebra.proofs.All.{all-set}
-use Rattle.algebra.proofs.Test.{pick-by, by-test}
+use Rattle.algebra.proofs.Test.{cond-by, by-test}
 use Rattle.parameters.specs.declared.Params.{Params}
 use Rattle.polynomial.specs.Polynomial.{coefficient, ternary, weight}
+use Rattle.polynomial.specs.Sparse.{Sparse}
 use Rattle.challenge.specs.Pool.{pool}
-use Rattle.challenge.specs.Draw.{signAt, valueAt, taken, withValue, kept, placed, valueCount, draw, drawChallenge, Sparse}
+use Rattle.challenge.specs.Draw.{signAt, valueAt, taken, withValue, kept, placed, valueCount, draw, drawChallenge}
 use Rattle.challenge.proofs.Kept.{index-below, sign-abs, taken-more, placed-more}
 
 neither : (a b : Bool) → a || b ≡ false → (a ≡ false) × (b ≡ false)
@@ -51,9 +52,9 @@ module _ (p : Params) (bytes : List ℕ) where
       let v = valueAt bytes m in
       let js = kept p bytes m in
       let h : P js = kept-by P none-yet more m in
-      pick-by P (leb (p .b) (length js)) (λ e. h)
-      (λ e. pick-by P (leb (p .n * (65536 / p .n)) v) (λ f. h)
-      (λ f. pick-by P (taken (v % p .n) js) (λ g. h)
+      cond-by P (leb (p .b) (length js)) (λ e. h)
+      (λ e. cond-by P (leb (p .n * (65536 / p .n)) v) (λ f. h)
+      (λ f. cond-by P (taken (v % p .n) js) (λ g. h)
       (λ g. more js (v % p .n) (index-below v (p .n) (leb-false (p .n * (65536 / p .n)) v f)) g h)))
 
   -- the challenge with the indices js: what Sparse asks, with the number of indices for b, and 0 where no index is

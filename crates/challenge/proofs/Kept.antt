@@ -6,10 +6,10 @@ use mathlib.Core.Bool.{Bool, true, false, _||_, or-false, or-true}
 use mathlib.Core.Logic.{_⊎_, inl, inr, ⊎-elim}
 use mathlib.Core.List.{List, [], _∷_, _++_}
 use Prim.Native.Nat.{ℕ, zero, suc, _+_, _-_, _*_, _/_, _%_, _^_, _≤_, _<_}
-use native.Mathlib.Nat.{add-zero, zero-add, add-suc, zero-mul, mod-lt, div-mul-le-self}
+use native.Mathlib.Nat.{add-zero, zero-add, add-suc, zero-mul, mod-lt}
 use native.Mathlib.Numerals.{add-one}
 use native.Mathlib.Omega.{arith}
-use borrow.Author.Tests.{eqb-true, eqb-false, le-leb, lt-leb}
+use borrow.Author.Tests.{eqb-true, eqb-false, leb-false, le-leb, lt-leb}
 use lib.Dec.{leb, eqb}
 use lib.IntN.{ℤ, pos, natAbs}
 use lib.ListN.{length, getD, set, take, replicate, length-append, length-set, length-replicate, getD-replicate}
@@ -17,16 +17,12 @@ use lib.Seq.{getD-set-same, getD-set-other, take-set-lt}
 use mir.Syntax.{w8}
 use mir.Val.{toZ, ofZ}
 use mir.Facts.{toZ-ofZ}
-use Rattle.algebra.specs.Choice.{pick}
 use Rattle.algebra.proofs.List.{take-replicate}
-use Rattle.algebra.proofs.Test.{pick-by, by-test}
+use Rattle.algebra.proofs.Test.{cond-by, by-test}
 use Rattle.algebra.proofs.Signed.{fits-signed}
 use Rattle.parameters.specs.declared.Params.{Params}
+use Rattle.parameters.specs.Limits.{maxN}
 use Rattle.challenge.specs.Draw.{signAt, valueAt, taken, withValue, kept, signed, placed, valueCount, draw, drawnOf}
-
-pick-same : {A : Type 0} (t : Bool) (a : A) → pick t a a ≡ a
-pick-same true a = refl
-pick-same false a = refl
 
 -- what becomes of a value v
 module _ (p : Params) (v : ℕ) (js : List ℕ) where
@@ -34,14 +30,13 @@ module _ (p : Params) (v : ℕ) (js : List ℕ) where
   unfolding withValue
   offered-full h = rw (le-leb (p .b) (length js))
 
-  offered-above : p .n * (65536 / p .n) ≤ v → withValue p v js ≡ js
+  -- above the bound, or its index taken
+  offered-skipped : (p .n * (65536 / p .n) ≤ v) ⊎ (taken (v % p .n) js ≡ true) → withValue p v js ≡ js
   unfolding withValue
-  offered-above h = rw (le-leb (p .n * (65536 / p .n)) v) (pick-same (leb (p .b) (length js)) js)
-
-  offered-taken : taken (v % p .n) js ≡ true → withValue p v js ≡ js
-  unfolding withValue
-  offered-taken e =
-      rw (e, pick-same (leb (p .n * (65536 / p .n)) v) js) (pick-same (leb (p .b) (length js)) js)
+  offered-skipped why =
+      by-test (leb (p .b) (length js)) (λ e. rw e)
+      (λ e. by-test (leb (p .n * (65536 / p .n)) v) (λ f. rw (e, f))
+      (λ f. rw (e, f) (⊎-elim (λ h. absurd (omega (arith, h, leb-false (p .n * (65536 / p .n)) v f))) (λ t. rw t) why)))
 
   offered-kept : length js < p .b → v < p .n * (65536 / p .n) → taken (v % p .n) js ≡ false → withValue p v js ≡ js ++ (v % p .n ∷ [])
   unfolding withValue
@@ -68,7 +63,7 @@ kept-rest p bytes m n h =
 
 pub sign-abs : (bytes : List ℕ) (i : ℕ) → natAbs (signAt bytes i) ≡ 1
 unfolding signAt
-sign-abs bytes i = pick-by (λ (z : ℤ). natAbs z ≡ 1) (eqb (getD bytes (i / 8) 0 / 2 ^ (i % 8) % 2) 0) (λ e. refl) (λ e. refl)
+sign-abs bytes i = cond-by (λ (z : ℤ). natAbs z ≡ 1) (eqb (getD bytes (i / 8) 0 / 2 ^ (i % 8) % 2) 0) (λ e. refl) (λ e. refl)
 
 pub sign-stored : (bytes : List ℕ) (i : ℕ) {r : ℤ} → r ≡ signAt bytes i → toZ w8 (ofZ w8 r) ≡ signAt bytes i
 sign-stored bytes i e = rw e (toZ-ofZ (fits-signed w8 (signAt bytes i) (rw (sign-abs bytes i) (omega arith))))
@@ -99,12 +94,9 @@ pub placed-more : (p : Params) (bytes : List ℕ) (j : ℕ) (js : List ℕ)
 unfolding placed
 placed-more p bytes j js = signed-more bytes 0 j js (replicate (p .n) (pos 0)) ∙ rw zero-add
 
--- the bound of the values that are not skipped fits a word, and each index has a place
+-- each index has a place
 
-pub limit-small : (n : ℕ) → n * (65536 / n) ≤ 65536
-limit-small n = omega (arith, div-mul-le-self 65536 n)
-
-pub index-small : (v : ℕ) {n : ℕ} → 0 < n → n ≤ 1153 → v % n < 1153
+pub index-small : (v : ℕ) {n : ℕ} → 0 < n → n ≤ maxN → v % n < maxN
 index-small v h l = omega (arith, mod-lt v h)
 
 -- the index of a value that is not skipped is one of the N, whatever N is
@@ -112,26 +104,26 @@ pub index-below : (v n : ℕ) → v < n * (65536 / n) → v % n < n
 index-below v zero h = absurd (omega (arith, zero-mul (65536 / 0)))
 index-below v (suc n) h = mod-lt v (omega arith)
 
--- the loop's locals after the first m values
-pub record Held (p : Params) (bytes : List ℕ) (m : ℕ) (marks : List Bool) (challenge : List ℤ) (count : ℕ) : Type 0 where
-  pub marks-size : length marks ≡ 1153
-  pub size : length challenge ≡ 1153
-  pub counted : count ≡ length (kept p bytes m)
-  pub marked : (k : ℕ) → k < p .n → getD marks k false ≡ taken k (kept p bytes m)
-  pub front : take (p .n) challenge ≡ placed p bytes (kept p bytes m)
+-- the loop's locals where the indices js are kept
+pub record Held (p : Params) (bytes js : List ℕ) (marks : List Bool) (challenge : List ℤ) (count : ℕ) : Type 0 where
+  pub marks-size : length marks ≡ maxN
+  pub size : length challenge ≡ maxN
+  pub counted : count ≡ length js
+  pub marked : (k : ℕ) → k < p .n → getD marks k false ≡ taken k js
+  pub front : take (p .n) challenge ≡ placed p bytes js
 
--- before the first value
-pub held-none : (p : Params) (bytes : List ℕ) → p .n ≤ 1153 → Held p bytes 0 (replicate 1153 false) (replicate 1153 (pos 0)) 0
+pub held-none : (p : Params) (bytes : List ℕ) → p .n ≤ maxN → Held p bytes (kept p bytes 0) (replicate maxN false) (replicate maxN (pos 0)) 0
 unfolding kept placed
 held-none p bytes h = record {
-  marks-size = length-replicate 1153 false;
-  size = length-replicate 1153 (pos 0);
+  marks-size = length-replicate maxN false;
+  size = length-replicate maxN (pos 0);
   counted = refl;
-  marked = λ k l. getD-replicate 1153 k false false (omega arith);
-  front = take-replicate (p .n) 1153 (pos 0) h;
+  marked = λ k l. getD-replicate maxN k false false (omega arith);
+  front = take-replicate (p .n) maxN (pos 0) h;
 }
 
-module _ (p : Params) (bytes : List ℕ) {m : ℕ} {marks : List Bool} {challenge : List ℤ} {count : ℕ} (s : Held p bytes m marks challenge count) where
+module _ (p : Params) (bytes : List ℕ) (m : ℕ) {marks : List Bool} {challenge : List ℤ} {count : ℕ}
+    (s : Held p bytes (kept p bytes m) marks challenge count) where
   -- the loop ends where b indices are kept or no value is left
   pub held-all : m ≤ valueCount bytes → (p .b ≤ count) ⊎ (valueCount bytes ≤ m)
       → drawnOf p (record { complete = eqb count (p .b); challenge = challenge }) ≡ draw p bytes
@@ -149,36 +141,25 @@ module _ (p : Params) (bytes : List ℕ) {m : ℕ} {marks : List Bool} {challeng
     kept-next = ap (kept p bytes) (add-one m) ∙ ap (λ (x : ℕ). withValue p x (kept p bytes m)) (sym e)
 
     -- the value is skipped, so nothing changes
-    held-skipped : withValue p v (kept p bytes m) ≡ kept p bytes m → Held p bytes (m + 1) marks challenge count
-    held-skipped o =
-        let same : kept p bytes (m + 1) ≡ kept p bytes m = kept-next ∙ o in
-        record {
-          marks-size = s .marks-size;
-          size = s .size;
-          counted = rw same (s .counted);
-          marked = λ k l. rw same (s .marked k l);
-          front = rw same (s .front);
-        }
+    pub held-above : p .n * (65536 / p .n) ≤ v → Held p bytes (kept p bytes (m + 1)) marks challenge count
+    held-above h = rw (kept-next ∙ offered-skipped p v (kept p bytes m) (inl h)) s
 
-    pub held-above : p .n * (65536 / p .n) ≤ v → Held p bytes (m + 1) marks challenge count
-    held-above h = held-skipped (offered-above p v (kept p bytes m) h)
-
-    pub held-taken : v < p .n * (65536 / p .n) → getD marks (v % p .n) false ≡ true → Held p bytes (m + 1) marks challenge count
-    held-taken h t = held-skipped (offered-taken p v (kept p bytes m) (sym (s .marked (v % p .n) (index-below v (p .n) h)) ∙ t))
+    pub held-taken : v < p .n * (65536 / p .n) → getD marks (v % p .n) false ≡ true → Held p bytes (kept p bytes (m + 1)) marks challenge count
+    held-taken h t =
+        rw (kept-next ∙ offered-skipped p v (kept p bytes m) (inr (sym (s .marked (v % p .n) (index-below v (p .n) h)) ∙ t))) s
 
     -- the value's index is kept
-    pub held-more : {sign : ℤ} → p .n ≤ 1153 → count < p .b → v < p .n * (65536 / p .n) → getD marks (v % p .n) false ≡ false
-        → sign ≡ signAt bytes count → Held p bytes (m + 1) (set marks (v % p .n) true) (set challenge (v % p .n) sign) (count + 1)
+    pub held-more : {sign : ℤ} → p .n ≤ maxN → count < p .b → v < p .n * (65536 / p .n) → getD marks (v % p .n) false ≡ false
+        → sign ≡ signAt bytes count → Held p bytes (kept p bytes (m + 1)) (set marks (v % p .n) true) (set challenge (v % p .n) sign) (count + 1)
     held-more {sign} fits h l free g =
         let j = v % p .n in
         let below : v % p .n < p .n = index-below v (p .n) l in
         let js = kept p bytes m in
-        let more : kept p bytes (m + 1) ≡ js ++ (j ∷ []) =
-        kept-next ∙ offered-kept p v js (omega (arith, s .counted)) l (sym (s .marked j below) ∙ free) in
-        record {
+        rw (kept-next ∙ offered-kept p v js (omega (arith, s .counted)) l (sym (s .marked j below) ∙ free))
+        (record {
           marks-size = length-set marks j true ∙ s .marks-size;
           size = length-set challenge j sign ∙ s .size;
-          counted = rw (more, length-append) (omega (arith, s .counted));
-          marked = λ k b. rw more (marks-more marks k j js (omega (arith, s .marks-size)) (s .marked k b));
-          front = rw (more, placed-more p bytes j js, take-set-lt (p .n) challenge j sign below, g, s .front, s .counted);
-        }
+          counted = rw length-append (omega (arith, s .counted));
+          marked = λ k b. marks-more marks k j js (omega (arith, s .marks-size)) (s .marked k b);
+          front = rw (placed-more p bytes j js, take-set-lt (p .n) challenge j sign below, g, s .front, s .counted);
+        })

@@ -1,22 +1,19 @@
 -- Document 01, "Hash and challenge": the drawer. A pool is a list of bytes.
 -- Assumes nothing.
-use mathlib.Core.Path.{_≡_}
-use mathlib.Core.Bool.{Bool, false, _||_}
+use mathlib.Core.Bool.{Bool, false, _||_, cond}
 use mathlib.Core.List.{List, [], _∷_, _++_}
 use mathlib.Core.Option.{Option, none, some}
 use Prim.Native.Nat.{ℕ, zero, suc, _+_, _-_, _*_, _/_, _%_, _^_}
-use lib.Dec.{T, leb, eqb}
+use lib.Dec.{leb, eqb}
 use lib.IntN.{ℤ, pos, negsuc}
 use lib.ListN.{length, getD, set, take, replicate}
-use Rattle.algebra.specs.Choice.{pick}
 use Rattle.parameters.specs.declared.Params.{Params}
-use Rattle.polynomial.specs.Polynomial.{ternary, weight}
 use Rattle.challenge.specs.declared.Drawn.{Drawn}
 use Rattle.challenge.specs.Pool.{pool}
 
 -- sign i is bit (i mod 8), least significant as bit 0, of byte i/8 rounded down: 0 means +1 and 1 means -1
 unfoldable pub signAt : List ℕ → ℕ → ℤ
-signAt bytes i = pick (eqb (getD bytes (i / 8) 0 / 2 ^ (i % 8) % 2) 0) (pos 1) (negsuc 0)
+signAt bytes i = cond (eqb (getD bytes (i / 8) 0 / 2 ^ (i % 8) % 2) 0) (pos 1) (negsuc 0)
 
 -- value m: from byte 8 on, each two bytes, the high byte first
 unfoldable pub valueAt : List ℕ → ℕ → ℕ
@@ -35,9 +32,9 @@ taken k (j ∷ js) = eqb k j || taken k js
 -- is skipped; otherwise its index is v mod N, skipped if already marked as taken
 unfoldable pub withValue : Params → ℕ → List ℕ → List ℕ
 withValue p v js =
-    pick (leb (p .b) (length js)) js
-    (pick (leb (p .n * (65536 / p .n)) v) js
-    (pick (taken (v % p .n) js) js
+    cond (leb (p .b) (length js)) js
+    (cond (leb (p .n * (65536 / p .n)) v) js
+    (cond (taken (v % p .n) js) js
     (js ++ (v % p .n ∷ []))))
 
 -- the indices kept of the first m values, in the order drawn
@@ -57,7 +54,7 @@ placed p bytes js = signed bytes 0 js (replicate (p .n) (pos 0))
 -- the challenge that a pool yields; none where it is spent: fewer than b indices kept in all of it
 unfoldable pub draw : Params → List ℕ → Option (List ℤ)
 draw p bytes =
-    pick (eqb (length (kept p bytes (valueCount bytes))) (p .b))
+    cond (eqb (length (kept p bytes (valueCount bytes))) (p .b))
     (some (placed p bytes (kept p bytes (valueCount bytes))))
     none
 
@@ -65,12 +62,6 @@ draw p bytes =
 unfoldable pub drawChallenge : Params → List ℕ → List ℕ → Option (List ℤ)
 drawChallenge p w message = draw p (pool w message)
 
--- what a drawn challenge is: N coefficients, each -1, 0 or 1, and exactly b of them not 0
-pub record Sparse (p : Params) (c : List ℤ) : Type 0 where
-  pub size : length c ≡ p .n
-  pub small : T (ternary c)
-  pub full : weight c ≡ p .b
-
 -- what the drawer's answer says: its first N coefficients, or that the pool is spent
 abbrev pub drawnOf : Params → Drawn → Option (List ℤ)
-drawnOf p d = pick (d .complete) (some (take (p .n) (d .challenge))) none
+drawnOf p d = cond (d .complete) (some (take (p .n) (d .challenge))) none

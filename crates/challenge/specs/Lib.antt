@@ -1,2 +1,3 @@
 pub mod Pool
 pub mod Draw
+pub mod Asks

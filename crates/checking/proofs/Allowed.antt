@@ -5,13 +5,28 @@ use mathlib.Core.Bool.{true}
 use mathlib.Core.List.{List}
 use mathlib.Core.Logic.{_↔_}
 use Prim.Native.Nat.{ℕ}
-use lib.Dec.{eqb}
-use lib.ListN.{length}
+use lib.ListN.{length, drop}
+use borrow.Author.Tests.{eq-eqb}
 use Rattle.parameters.specs.declared.Params.{Params}
 use Rattle.encoding.specs.Challenge.{areEntries}
-use Rattle.encoding.specs.Encoding.{publicKeySize, signatureSize, areExponents, areEvaluations, exponentsOf, evaluationsOf, entriesRead}
-use Rattle.checking.specs.Check.{checkRefusalIn}
-use Rattle.refusal.proofs.Refusal.{step, end, equal-iff}
+use Rattle.encoding.specs.Encoding.{publicKeySize, signatureSize, areExponents, areEvaluations, exponentsOf, evaluationsOf, entriesIn, entriesRead}
+use Rattle.refusal.proofs.Answering.{both-equal}
+use Rattle.refusal.proofs.Refusal.{step, end}
+use Rattle.checking.specs.Check.{checkLengths, checkRefusalOf, checkRefusalIn}
+
+-- what was read is not refused
+pub record ReadAllowed (p : Params) (exponents evaluations entries : List ℕ) : Type 0 where
+  pub exponents-rise : areExponents p exponents ≡ true
+  pub evaluations-below : areEvaluations p evaluations ≡ true
+  pub entries-increase : areEntries (p .n) entries ≡ true
+
+pub read-allowed : (p : Params) (js vs es : List ℕ) → (checkRefusalOf p js vs es ≡ 0) ↔ ReadAllowed p js vs es
+unfolding checkRefusalOf
+read-allowed p js vs es =
+    let tests = step (areExponents p js) 3 (step (areEvaluations p vs) 6 (step (areEntries (p .n) es) 11 end)) in (
+      λ e. let h = tests .0 e in record { exponents-rise = h .0; evaluations-below = h .1 .0; entries-increase = h .1 .1 .0 },
+      λ a. tests .1 (a .exponents-rise, (a .evaluations-below, (a .entries-increase, tt))),
+    )
 
 module _ (p : Params) (key signature : List ℕ) where
   -- a check is not refused
@@ -23,18 +38,22 @@ module _ (p : Params) (key signature : List ℕ) where
     pub entries-increase : areEntries (p .n) (entriesRead p signature) ≡ true
 
   pub check-allowed : (checkRefusalIn p key signature ≡ 0) ↔ CheckAllowed
-  unfolding checkRefusalIn
+  unfolding checkRefusalIn entriesRead
   check-allowed =
-      let tests = step (eqb (length key) (publicKeySize p)) 0 (step (eqb (length signature) (signatureSize p)) 0
-      (step (areExponents p (exponentsOf p key)) 3 (step (areEvaluations p (evaluationsOf p key)) 6 (step (areEntries (p .n) (entriesRead p signature)) 11 end)))) in (
+      let read = read-allowed p (exponentsOf p key) (evaluationsOf p key) (entriesIn p (drop 1 signature)) in
+      let tests = step (checkLengths p (length key) (length signature)) 0 read in (
         λ e.
             let h = tests .0 e in
+            let l = both-equal (length key) (publicKeySize p) (length signature) (signatureSize p) (h .0) in
             record {
-              key-size = equal-iff .0 (h .0);
-              signature-size = equal-iff .0 (h .1 .0);
-              exponents-rise = h .1 .1 .0;
-              evaluations-below = h .1 .1 .1 .0;
-              entries-increase = h .1 .1 .1 .1 .0;
+              key-size = l .0;
+              signature-size = l .1;
+              exponents-rise = h .1 .exponents-rise;
+              evaluations-below = h .1 .evaluations-below;
+              entries-increase = h .1 .entries-increase;
             },
-        λ a. tests .1 (equal-iff .1 (a .key-size), (equal-iff .1 (a .signature-size), (a .exponents-rise, (a .evaluations-below, (a .entries-increase, tt))))),
+        λ a. tests .1 (
+          rw (eq-eqb (length key) (publicKeySize p) (a .key-size), eq-eqb (length signature) (signatureSize p) (a .signature-size)),
+          record { exponents-rise = a .exponents-rise; evaluations-below = a .evaluations-below; entries-increase = a .entries-increase },
+        ),
       )

@@ -1,34 +1,62 @@
 -- The entry `check`: refusals 1 (message, empty encodings), 2 (the key's set, or sets that differ), 1, 4, 7, 12, then yes or no.
 -- Over any parameter set and any way to draw, as the entry `sign` is.
 -- Assumes nothing.
-use mathlib.Core.Bool.{Bool, not}
+use mathlib.Core.Bool.{Bool, not, _&&_, _||_, cond}
 use mathlib.Core.List.{List}
 use Prim.Native.Nat.{ℕ}
 use lib.Dec.{eqb}
-use lib.ListN.{length}
-use Rattle.algebra.specs.Choice.{pick}
+use lib.ListN.{length, drop}
 use Rattle.parameters.specs.declared.Params.{Params}
-use Rattle.parameters.specs.Sets.{isSet, setOf}
 use Rattle.challenge.specs.Draw.{drawChallenge}
 use Rattle.encoding.specs.Challenge.{areEntries, challengeOf}
-use Rattle.encoding.specs.Encoding.{publicKeySize, signatureSize, areExponents, areEvaluations, exponentsOf, evaluationsOf, entriesRead, zRead}
+use Rattle.encoding.specs.Encoding.{publicKeySize, signatureSize, areExponents, areEvaluations, exponentsOf, evaluationsOf, entriesIn, zIn}
 use Rattle.scheme.specs.Scheme.{Drawer, Signature, verdict}
 use Rattle.refusal.specs.declared.Verdict.{Verdict}
 use Rattle.refusal.specs.declared.Verdict.the-variants as answer
-use Rattle.refusal.specs.Answer.{setByte, isLong}
+use Rattle.refusal.specs.Answer.{setByte, setIn, isLong, inSetOf}
+use Rattle.refusal.specs.Numbers.{wrongLength, wrongSet, wrongExponents, wrongEvaluation, wrongEntries}
 
--- the lengths, then 4, 7, 12
+-- the signature that a body means, the bytes behind the set byte, and that of a whole encoding
+unfoldable pub bodyRead : Params → List ℕ → Signature
+bodyRead p body = record { c = challengeOf (p .n) (entriesIn p body); z = zIn p body }
+
+abbrev pub signatureRead : Params → List ℕ → Signature
+signatureRead p xs = bodyRead p (drop 1 xs)
+
+-- ---- what refuses a check
+
+-- of what was read: exponents and evaluations of a public key, entries of a signature
+unfoldable pub checkRefusalOf : Params → List ℕ → List ℕ → List ℕ → ℕ
+checkRefusalOf p exponents evaluations entries =
+    cond (not (areExponents p exponents)) wrongExponents
+    (cond (not (areEvaluations p evaluations)) wrongEvaluation
+    (cond (not (areEntries (p .n) entries)) wrongEntries 0))
+
+-- the lengths of the set, then what is read
+abbrev pub checkLengths : Params → ℕ → ℕ → Bool
+checkLengths p key signature = eqb key (publicKeySize p) && eqb signature (signatureSize p)
+
 unfoldable pub checkRefusalIn : Params → List ℕ → List ℕ → ℕ
 checkRefusalIn p key signature =
-    pick (not (eqb (length key) (publicKeySize p))) 1
-    (pick (not (eqb (length signature) (signatureSize p))) 1
-    (pick (not (areExponents p (exponentsOf p key))) 4
-    (pick (not (areEvaluations p (evaluationsOf p key))) 7
-    (pick (not (areEntries (p .n) (entriesRead p signature))) 12 0))))
+    cond (not (checkLengths p (length key) (length signature))) wrongLength
+    (checkRefusalOf p (exponentsOf p key) (evaluationsOf p key) (entriesIn p (drop 1 signature)))
 
--- the signature that the bytes mean
-unfoldable pub signatureRead : Params → List ℕ → Signature
-signatureRead p xs = record { c = challengeOf (p .n) (entriesRead p xs); z = zRead p xs }
+-- those of the entry
+unfoldable pub checkRefusal : List ℕ → List ℕ → List ℕ → ℕ
+checkRefusal key message signature =
+    cond (isLong message || eqb (length signature) 0) wrongLength
+    (inSetOf key (λ (p : Params). cond (not (eqb (setByte signature) (setByte key))) wrongSet (checkRefusalIn p key signature)))
+
+-- ---- what is answered
+
+-- by the refusal number and by the paper's rule
+abbrev pub verdictAfter : ℕ → Bool → Verdict
+verdictAfter refusal holds = cond (eqb refusal 0) (cond holds answer.Yes answer.No) (answer.Refused refusal)
+
+-- on what was read from a public key, and a signature's body
+unfoldable pub answerOn : Drawer → Params → List ℕ → List ℕ → List ℕ → List ℕ → Verdict
+answerOn draw p exponents evaluations message body =
+    verdictAfter (checkRefusalOf p exponents evaluations (entriesIn p body)) (verdict draw p exponents message evaluations (bodyRead p body))
 
 module _ (draw : Drawer) (p : Params) (key message signature : List ℕ) where
   -- the paper's rule, on what is read
@@ -36,17 +64,8 @@ module _ (draw : Drawer) (p : Params) (key message signature : List ℕ) where
   checkVerdict = verdict draw p (exponentsOf p key) message (evaluationsOf p key) (signatureRead p signature)
 
   unfoldable pub checkAnswerIn : Verdict
-  checkAnswerIn =
-      pick (eqb (checkRefusalIn p key signature) 0)
-      (pick checkVerdict answer.Yes answer.No)
-      (answer.Refused (checkRefusalIn p key signature))
+  checkAnswerIn = verdictAfter (checkRefusalIn p key signature) checkVerdict
 
 -- what the entry answers
 unfoldable pub checkAnswer : List ℕ → List ℕ → List ℕ → Verdict
-checkAnswer key message signature =
-    pick (isLong message) (answer.Refused 1)
-    (pick (eqb (length key) 0) (answer.Refused 1)
-    (pick (eqb (length signature) 0) (answer.Refused 1)
-    (pick (not (isSet (setByte key))) (answer.Refused 2)
-    (pick (not (eqb (setByte signature) (setByte key))) (answer.Refused 2)
-    (checkAnswerIn drawChallenge (setOf (setByte key)) key message signature)))))
+checkAnswer key message signature = verdictAfter (checkRefusal key message signature) (checkVerdict drawChallenge (setIn key) key message signature)

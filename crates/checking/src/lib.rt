@@ -1,137 +1,261 @@
-// Checking as an entry.
-mod rule;
-
+// Checking: the commitment is recovered from the signature and the public evaluations, and its challenge compared with the given one; then the entry.
 ghost use mathlib.Core.Path.{_≡_};
-ghost use Prim.Native.Nat.{_<_};
+ghost use Prim.Native.Nat.{_+_, _*_, _^_, _<_, _≤_};
+ghost use lib.Dec.{T};
+ghost use lib.IntN.{pos, _-ℤ_};
 ghost use lib.ListN.{length, take};
-ghost use Rattle.parameters.specs.Sets.{setOf};
-ghost use Rattle.parameters.specs.Sound.{Fitting};
+ghost use Rattle.algebra.specs.All.{areBelow};
+ghost use Rattle.algebra.specs.Integer.{residue};
+ghost use Rattle.parameters.specs.Limits.{maxN};
+ghost use Rattle.parameters.specs.Ring.{Usable};
+ghost use Rattle.parameters.specs.Sound.{Limited};
+ghost use Rattle.polynomial.specs.Evaluation.{evaluations};
 ghost use Rattle.challenge.specs.Draw.{drawChallenge};
 ghost use Rattle.encoding.specs.Challenge.{challengeOf};
-ghost use Rattle.encoding.specs.Encoding.{signatureSize, entriesRead, zRead};
-ghost use Rattle.checking.specs.Check.{checkRefusalIn, checkVerdict, checkAnswerIn, checkAnswer};
-use crate::rule::verdict_of;
-use encoding::challenge_entries::read_challenge;
-use encoding::layout::evaluations_of;
-use encoding::layout::has_entries;
-use encoding::layout::has_evaluations;
-use encoding::layout::has_exponents;
-use encoding::layout::words_of;
-use encoding::signed_numbers::read_signed_words;
+ghost use Rattle.scheme.specs.Scheme.{differences, equal, equalℤ, recovered};
+ghost use Rattle.checking.specs.Check.{checkLengths, checkRefusalOf, answerOn, checkAnswer};
+ghost use Rattle.checking.specs.Asks.{signatureWith, ruleOf, guardRefusal, Recoverable, Checkable};
+use challenge::challenge_of;
+use encoding::numbers::are_below;
+use encoding::numbers::are_exponents;
+use encoding::public_key::decode_public_key;
+use encoding::public_key::public_key_size;
+use encoding::signature::are_entries_of;
+use encoding::signature::decode_signature;
+use encoding::signature::read_challenge;
+use encoding::signature::signature_size;
+use parameters::MAX_MESSAGE;
+use parameters::MAX_N;
+use parameters::MAX_T;
 use parameters::Params;
 use parameters::params_of;
-use parameters::powers_of;
+use parameters::ring_of;
+use polynomial::evaluation::evaluate;
+use polynomial::product::in_range16;
 use refusal::Verdict;
+use refusal::WRONG_ENTRIES;
+use refusal::WRONG_EVALUATION;
+use refusal::WRONG_EXPONENTS;
+use refusal::WRONG_LENGTH;
+use refusal::WRONG_SET;
+use refusal::set_refusal;
+use refusal::unless;
 
-// The challenge of a signature, in front.
-fn challenge_read(p: Params, signature: &[u8]) -> [i8; 1153]
-    requires { ⌜ Fitting p × (length (now signature) ≡ signatureSize p) ⌝ }
-    ensures { λ r. ⌜ take (p .n) r ≡ challengeOf (p .n) (entriesRead p (now (signature .entry))) ⌝ }
+// z - v × c modulo q, for evaluations below q.
+fn difference(z: u32, v: u32, c: u32, q: u32) -> u32
+    requires { ⌜ (z < q) × (v < q) × (c < q) × (q < 2 ^ 20) ⌝ }
+    ensures { λ r. ⌜ r ≡ residue (pos z -ℤ pos (v * c)) q ⌝ }
 {
-    let n = p.n;
-    let b = p.b;
-    let entries = words_of(signature, b);
-    let mut out = [0i8; 1153];
-    read_challenge(&entries[..b], &mut out[..n]);
+    let modulus = q as u64;
+    let product = (v as u64) * (c as u64) % modulus;
+    ((z as u64 + modulus - product) % modulus) as u32
+}
+
+// The differences at each place, in front.
+fn differences_of(q: u32, z: &[u32], public: &[u32], challenge: &[u32]) -> [u32; MAX_T]
+    requires { ⌜ Recoverable q (now public) (now challenge) (now z) ⌝ }
+    ensures { λ r. ⌜ take (length (now (z .entry))) r ≡ differences q (now (z .entry)) (now (public .entry)) (now (challenge .entry)) ⌝ }
+{
+    let mut out = [0u32; MAX_T];
+    let mut i = 0;
+    while i < z.len() {
+        out[i] = difference(z[i], public[i], challenge[i], q);
+        i += 1;
+    }
     out
 }
 
-// The point of a signature, in front.
-fn z_read(p: Params, signature: &[u8]) -> [i16; 1153]
-    requires { ⌜ Fitting p × (length (now signature) ≡ signatureSize p) ⌝ }
-    ensures { λ r. ⌜ take (p .n) r ≡ zRead p (now (signature .entry)) ⌝ }
+// The coefficients of a challenge as the evaluator takes them, in front.
+fn wide_challenge(c: &[i8]) -> [i16; MAX_N]
+    requires { ⌜ length (now c) ≤ maxN ⌝ }
+    ensures { λ r. ⌜ take (length (now (c .entry))) r ≡ now (c .entry) ⌝ }
 {
-    let n = p.n;
-    let start = 1 + 2 * p.b;
-    let mut out = [0i16; 1153];
-    read_signed_words(&signature[start..], &mut out[..n]);
+    let mut out = [0i16; MAX_N];
+    let mut i = 0;
+    while i < c.len() {
+        out[i] = c[i] as i16;
+        i += 1;
+    }
     out
 }
 
-// The refusal for lengths, exponents, evaluations and challenge entries, or 0.
-fn refusal_in(p: Params, key: &[u8], signature: &[u8]) -> u32
-    requires { ⌜ Fitting p ⌝ }
-    ensures { λ r. ⌜ r ≡ checkRefusalIn p (now (key .entry)) (now (signature .entry)) ⌝ }
+fn is_same(a: i8, b: i8) -> bool
+    ensures { λ r. ⌜ r ≡ equalℤ a b ⌝ }
+{
+    a == b
+}
+
+// Whether two challenges are equal.
+fn is_equal(c: &[i8], d: &[i8]) -> bool
+    requires { ⌜ length (now d) ≡ length (now c) ⌝ }
+    ensures { λ r. ⌜ r ≡ equal (now (c .entry)) (now (d .entry)) ⌝ }
+{
+    let mut same = true;
+    let mut i = 0;
+    while i < c.len() {
+        same = same & is_same(c[i], d[i]);
+        i += 1;
+    }
+    same
+}
+
+// The evaluations of a polynomial at the points, in front.
+fn evaluations_at(p: Params, powers: &[u32; MAX_N], exponents: &[u16], f: &[i16]) -> [u32; MAX_T]
+    requires { ⌜ Usable p (now powers) ⌝ }
+    requires { ⌜ (length (now exponents) ≡ p .t) × T (areBelow (p .n) (now exponents)) × (length (now f) ≡ p .n) ⌝ }
+    ensures { λ r. ⌜ take (p .t) r ≡ evaluations p (now (f .entry)) (now (exponents .entry)) ⌝ }
+{
+    let t = p.t;
+    let mut out = [0u32; MAX_T];
+    evaluate(p, powers, f, exponents, &mut out[..t]);
+    out
+}
+
+// The commitment that the signature's challenge and point recover, in front.
+fn recovered_commitment(
+    p: Params,
+    powers: &[u32; MAX_N],
+    exponents: &[u16],
+    evaluations: &[u32],
+    c: &[i8],
+    z: &[i16],
+) -> [u32; MAX_T]
+    requires { ⌜ Checkable p (now powers) (now exponents) (now evaluations) (now c) (now z) ⌝ }
+    ensures { λ r. ⌜ take (p .t) r ≡ recovered p (signatureWith (now (c .entry)) (now (z .entry))) (now (exponents .entry)) (now (evaluations .entry)) ⌝ }
+{
+    let n = p.n;
+    let t = p.t;
+    let wide = wide_challenge(c);
+    let of_challenge = evaluations_at(p, powers, exponents, &wide[..n]);
+    let of_z = evaluations_at(p, powers, exponents, z);
+    differences_of(p.q, &of_z[..t], evaluations, &of_challenge[..t])
+}
+
+// The paper's rule: z is in range and the challenge of the recovered commitment is c.
+fn verdict_of(
+    p: Params,
+    powers: &[u32; MAX_N],
+    exponents: &[u16],
+    evaluations: &[u32],
+    c: &[i8],
+    z: &[i16],
+    message: &[u8],
+) -> bool
+    requires { ⌜ Checkable p (now powers) (now exponents) (now evaluations) (now c) (now z) ⌝ }
+    ensures { λ r. ⌜ r ≡ ruleOf p (now (exponents .entry)) (now (message .entry)) (now (evaluations .entry)) (now (c .entry)) (now (z .entry)) ⌝ }
 {
     let n = p.n;
     let t = p.t;
     let b = p.b;
-    if key.len() != 1 + 2 * t + 3 * t {
-        return 1;
+    if in_range16(z, p.k - b as u32) {
+        let commitment = recovered_commitment(p, powers, exponents, evaluations, c, z);
+        let drawn = challenge_of(p, &commitment[..t], message);
+        if drawn.complete {
+            let challenge = drawn.challenge;
+            return is_equal(&challenge[..n], c);
+        }
     }
-    if signature.len() != 1 + 2 * b + 2 * n {
-        return 1;
-    }
-    if !has_exponents(p, key) {
-        return 4;
-    }
-    if !has_evaluations(p, key) {
-        return 7;
-    }
-    if has_entries(p, signature) {
-        return 0;
-    }
-    12
+    false
 }
 
-// The verdict on a key and a signature that are not refused.
-fn verdict_in(p: Params, set: u8, key: &[u8], message: &[u8], signature: &[u8]) -> bool
-    requires { ⌜ (set < 5) × (p ≡ setOf set) × (checkRefusalIn p (now key) (now signature) ≡ 0) ⌝ }
-    ensures { λ r. ⌜ r ≡ checkVerdict drawChallenge p (now (key .entry)) (now (message .entry)) (now (signature .entry)) ⌝ }
+// The challenge with these entries, in front.
+fn challenge_with(entries: &[u16], n: usize) -> [i8; MAX_N]
+    requires { ⌜ n ≤ maxN ⌝ }
+    ensures { λ r. ⌜ take n r ≡ challengeOf n (now (entries .entry)) ⌝ }
+{
+    let mut c = [0i8; MAX_N];
+    read_challenge(entries, &mut c[..n]);
+    c
+}
+
+// The refusal for exponents, evaluations and challenge entries, or 0.
+fn refusal_of(p: Params, exponents: &[u16], evaluations: &[u32], entries: &[u16]) -> u32
+    ensures { λ r. ⌜ r ≡ checkRefusalOf p (now (exponents .entry)) (now (evaluations .entry)) (now (entries .entry)) ⌝ }
+{
+    let of_signature = unless(are_entries_of(entries, p.n), WRONG_ENTRIES, 0);
+    let of_values = unless(are_below(evaluations, p.q), WRONG_EVALUATION, of_signature);
+    unless(are_exponents(exponents, p.n), WRONG_EXPONENTS, of_values)
+}
+
+// Checks in a set on exponents and evaluations, and a signature's bytes without its set byte.
+pub fn check_in(
+    p: Params,
+    powers: &[u32; MAX_N],
+    exponents: &[u16],
+    evaluations: &[u32],
+    signature: &[u8],
+    message: &[u8],
+) -> Verdict
+    requires { ⌜ Usable p (now powers) ⌝ }
+    requires { ⌜ (length (now exponents) ≡ p .t) × (length (now evaluations) ≡ p .t) × (length (now signature) ≡ 2 * p .b + 2 * p .n) ⌝ }
+    ensures { λ r. ⌜ r ≡ answerOn drawChallenge p (now (exponents .entry)) (now (evaluations .entry)) (now (message .entry)) (now (signature .entry)) ⌝ }
 {
     let n = p.n;
-    let t = p.t;
-    let table = powers_of(set);
-    let exponents = words_of(key, t);
-    let evaluations = evaluations_of(p, key);
-    let c = challenge_read(p, signature);
-    let z = z_read(p, signature);
-    verdict_of(
-        p,
-        &table[..n],
-        &exponents[..t],
-        &evaluations[..t],
-        &c[..n],
-        &z[..n],
-        message,
-    )
-}
-
-// Checks in a set, the message and the set bytes being allowed.
-fn check_in(p: Params, set: u8, key: &[u8], message: &[u8], signature: &[u8]) -> Verdict
-    requires { ⌜ (set < 5) × (p ≡ setOf set) ⌝ }
-    ensures { λ r. ⌜ r ≡ checkAnswerIn drawChallenge p (now (key .entry)) (now (message .entry)) (now (signature .entry)) ⌝ }
-{
-    let refusal = refusal_in(p, key, signature);
+    let b = p.b;
+    let decoded = decode_signature(p, signature);
+    let entries = decoded.entries;
+    let refusal = refusal_of(p, exponents, evaluations, &entries[..b]);
     if refusal != 0 {
         return Verdict::Refused(refusal);
     }
-    if verdict_in(p, set, key, message, signature) {
+    let c = challenge_with(&entries[..b], n);
+    let z = decoded.z;
+    if verdict_of(p, powers, exponents, evaluations, &c[..n], &z[..n], message) {
         return Verdict::Yes;
     }
     Verdict::No
+}
+
+// Whether a public key and a signature have the lengths of the set.
+fn has_lengths(p: Params, key: usize, signature: usize) -> bool
+    requires { ⌜ Limited p ⌝ }
+    ensures { λ r. ⌜ r ≡ checkLengths p key signature ⌝ }
+{
+    (key == public_key_size(p)) & (signature == signature_size(p))
+}
+
+// The refusal before anything is decoded, or 0: for message, empty encodings, set, sets that differ, lengths.
+fn guard_refusal(public_key: &[u8], message: &[u8], signature: &[u8]) -> u32
+    ensures { λ r. ⌜ r ≡ guardRefusal (now («public_key» .entry)) (now (message .entry)) (now (signature .entry)) ⌝ }
+{
+    if (MAX_MESSAGE < message.len()) | (signature.len() == 0) {
+        return WRONG_LENGTH;
+    }
+    let refusal = set_refusal(public_key);
+    if refusal != 0 {
+        return refusal;
+    }
+    let set = public_key[0];
+    let p = params_of(set);
+    let of_lengths = unless(
+        has_lengths(p, public_key.len(), signature.len()),
+        WRONG_LENGTH,
+        0,
+    );
+    unless(signature[0] == set, WRONG_SET, of_lengths)
 }
 
 // Checks a signature of a message against a public key. Refuses with 1, 2, 1, 4, 7, 12; a point out of range is a no.
 pub fn check(public_key: &[u8], message: &[u8], signature: &[u8]) -> Verdict
     ensures { λ r. ⌜ r ≡ checkAnswer (now («public_key» .entry)) (now (message .entry)) (now (signature .entry)) ⌝ }
 {
-    if 65535 < message.len() {
-        return Verdict::Refused(1);
+    let refusal = guard_refusal(public_key, message, signature);
+    if refusal != 0 {
+        return Verdict::Refused(refusal);
     }
-    if public_key.len() == 0 {
-        return Verdict::Refused(1);
-    }
-    if signature.len() == 0 {
-        return Verdict::Refused(1);
-    }
-    let set = public_key[0];
-    if 4 < set {
-        return Verdict::Refused(2);
-    }
-    if signature[0] != set {
-        return Verdict::Refused(2);
-    }
-    let p = params_of(set);
-    check_in(p, set, public_key, message, signature)
+    let ring = ring_of(public_key[0]);
+    let p = ring.params;
+    let powers = ring.powers;
+    let t = p.t;
+    let key = decode_public_key(p, &public_key[1..]);
+    let exponents = key.exponents;
+    let evaluations = key.evaluations;
+    check_in(
+        p,
+        &powers,
+        &exponents[..t],
+        &evaluations[..t],
+        &signature[1..],
+        message,
+    )
 }

@@ -1,49 +1,57 @@
 // The readers and writers of the three encodings as entries.
 ghost use mathlib.Core.Path.{_≡_};
 ghost use lib.ListN.{length};
+ghost use Rattle.parameters.specs.Sound.{Limited};
 ghost use Rattle.refusal.specs.Answer.{answerOf};
-ghost use Rattle.codec.specs.Codec.{readSecretKeyRefusal, readSecretKeyWritten, writeSecretKeyRefusal, writeSecretKeyWritten, readPublicKeyRefusal, readExponentsWritten, readEvaluationsWritten, writePublicKeyRefusal, writePublicKeyWritten, readSignatureRefusal, readEntriesWritten, readZWritten, writeSignatureRefusal, writeSignatureWritten};
-use encoding::challenge_entries::are_entries_of;
-use encoding::layout::has_entries;
-use encoding::layout::has_evaluations;
-use encoding::layout::has_exponents;
-use encoding::layout::is_ternary;
-use encoding::layout::put_public_key;
-use encoding::layout::put_secret_key;
-use encoding::layout::put_signature;
-use encoding::layout::read_coefficients;
-use encoding::numbers::read_triples;
-use encoding::numbers::read_words;
-use encoding::public_key::are_below;
-use encoding::public_key::are_exponents;
+ghost use Rattle.codec.specs.Codec.{readSecretKeyRefusal, readSecretKeyWritten, writeSecretKeyRefusal, writeSecretKeyWritten};
+ghost use Rattle.codec.specs.Codec.{publicKeyListsRefusal, readPublicKeyRefusal, readExponentsWritten, readEvaluationsWritten};
+ghost use Rattle.codec.specs.Codec.{writePublicKeyRefusal, writePublicKeyWritten, readSignatureRefusal, readEntriesWritten, readZWritten};
+ghost use Rattle.codec.specs.Codec.{writeSignatureRefusal, writeSignatureWritten};
+ghost use Rattle.codec.specs.Asks.{SecretKeyRead, PublicKeyRead, PublicKeyOut, SignatureRead, SignatureOut};
+use encoding::numbers::are_below;
+use encoding::numbers::are_exponents;
+use encoding::numbers::copy_i16;
+use encoding::numbers::copy_u16;
+use encoding::numbers::copy_u32;
+use encoding::public_key::decode_public_key;
+use encoding::public_key::public_key_size;
+use encoding::public_key::put_public_key;
 use encoding::secret_key::are_key_bytes;
-use encoding::signed_numbers::read_signed_words;
+use encoding::secret_key::put_secret_key;
+use encoding::secret_key::read_key8;
+use encoding::secret_key::secret_key_size;
+use encoding::signature::are_entries_of;
+use encoding::signature::decode_signature;
+use encoding::signature::put_signature;
+use encoding::signature::signature_size;
+use parameters::Params;
+use parameters::is_set;
 use parameters::params_of;
+use polynomial::product::is_ternary;
 use refusal::Answer;
+use refusal::WRONG_ENTRIES;
+use refusal::WRONG_EVALUATION;
+use refusal::WRONG_EXPONENTS;
+use refusal::WRONG_KEY;
+use refusal::WRONG_LENGTH;
+use refusal::WRONG_SET;
+use refusal::unless;
 
-// The refusal of reading a secret key, or 0.
-fn read_secret_key_refusal(bytes: &[u8], room: usize) -> u32
-    ensures { λ r. ⌜ r ≡ readSecretKeyRefusal (now (bytes .entry)) room ⌝ }
+// Reads a secret key of the set with these numbers.
+fn read_secret_key_in(p: Params, bytes: &[u8], out: &mut [i8]) -> Answer
+    requires { ⌜ Limited p ⌝ }
+    ensures { λ r. ⌜ SecretKeyRead p (now (bytes .entry)) r (now (out .entry)) (now (out .exit)) ⌝ }
 {
-    if bytes.len() == 0 {
-        return 1;
-    }
-    let set = bytes[0];
-    if 4 < set {
-        return 2;
-    }
-    let p = params_of(set);
     let n = p.n;
-    if bytes.len() != 1 + n {
-        return 1;
+    let size = secret_key_size(p);
+    if !((bytes.len() == size) & (out.len() == n)) {
+        return Answer::Refused(WRONG_LENGTH);
     }
-    if room != n {
-        return 1;
+    if !are_key_bytes(&bytes[1..]) {
+        return Answer::Refused(WRONG_KEY);
     }
-    if are_key_bytes(&bytes[1..]) {
-        return 0;
-    }
-    5
+    read_key8(&bytes[1..], out);
+    Answer::Done
 }
 
 // Reads a secret key, N coefficients. Refuses with 1, 2, 1, 5.
@@ -51,33 +59,27 @@ pub fn read_secret_key(bytes: &[u8], out: &mut [i8]) -> Answer
     ensures answer { λ r. ⌜ r ≡ answerOf (readSecretKeyRefusal (now (bytes .entry)) (length (now (out .entry)))) ⌝ }
     ensures written { λ r. ⌜ now (out .exit) ≡ readSecretKeyWritten (now (bytes .entry)) (now (out .entry)) ⌝ }
 {
-    let refusal = read_secret_key_refusal(bytes, out.len());
-    if refusal != 0 {
-        return Answer::Refused(refusal);
+    if bytes.len() == 0 {
+        return Answer::Refused(WRONG_LENGTH);
     }
-    read_coefficients(&bytes[1..], out);
-    Answer::Done
+    let set = bytes[0];
+    if !is_set(set) {
+        return Answer::Refused(WRONG_SET);
+    }
+    let p = params_of(set);
+    read_secret_key_in(p, bytes, out)
 }
 
 // The refusal of writing a secret key, or 0.
 fn write_secret_key_refusal(set: u8, f: &[i8], room: usize) -> u32
     ensures { λ r. ⌜ r ≡ writeSecretKeyRefusal set (now (f .entry)) room ⌝ }
 {
-    if 4 < set {
-        return 2;
-    }
     let p = params_of(set);
     let n = p.n;
-    if f.len() != n {
-        return 1;
-    }
-    if room != 1 + n {
-        return 1;
-    }
-    if is_ternary(f) {
-        return 0;
-    }
-    5
+    let size = secret_key_size(p);
+    let key = unless(is_ternary(f), WRONG_KEY, 0);
+    let lengths = unless((f.len() == n) & (room == size), WRONG_LENGTH, key);
+    unless(is_set(set), WRONG_SET, lengths)
 }
 
 // Writes a secret key. Refuses with 2, 1, 5.
@@ -85,43 +87,56 @@ pub fn write_secret_key(set: u8, f: &[i8], out: &mut [u8]) -> Answer
     ensures answer { λ r. ⌜ r ≡ answerOf (writeSecretKeyRefusal set (now (f .entry)) (length (now (out .entry)))) ⌝ }
     ensures written { λ r. ⌜ now (out .exit) ≡ writeSecretKeyWritten set (now (f .entry)) (now (out .entry)) ⌝ }
 {
-    let refusal = write_secret_key_refusal(set, f, out.len());
-    if refusal != 0 {
-        return Answer::Refused(refusal);
+    let number = write_secret_key_refusal(set, f, out.len());
+    if number != 0 {
+        return Answer::Refused(number);
     }
     put_secret_key(set, f, out);
     Answer::Done
 }
 
-// The refusal of reading a public key, or 0.
-fn read_public_key_refusal(bytes: &[u8], exponents_room: usize, evaluations_room: usize) -> u32
-    ensures { λ r. ⌜ r ≡ readPublicKeyRefusal (now (bytes .entry)) «exponents_room» «evaluations_room» ⌝ }
+// The refusal of what a public key holds, or 0.
+fn public_key_refusal(p: Params, exponents: &[u16], evaluations: &[u32]) -> u32
+    ensures { λ r. ⌜ r ≡ publicKeyListsRefusal p (now (exponents .entry)) (now (evaluations .entry)) ⌝ }
 {
-    if bytes.len() == 0 {
-        return 1;
+    let below = unless(are_below(evaluations, p.q), WRONG_EVALUATION, 0);
+    unless(are_exponents(exponents, p.n), WRONG_EXPONENTS, below)
+}
+
+// Hands out what a public key holds, unless it is refused.
+fn store_public_key(
+    p: Params,
+    exponents: &[u16],
+    values: &[u32],
+    js: &mut [u16],
+    vs: &mut [u32],
+) -> Answer
+    requires { ⌜ (length (now js) ≡ length (now exponents)) × (length (now vs) ≡ length (now values)) ⌝ }
+    ensures { λ r. ⌜ PublicKeyOut p (now (exponents .entry)) (now (values .entry)) r (now (js .entry)) (now (js .exit)) (now (vs .entry)) (now (vs .exit)) ⌝ }
+{
+    let number = public_key_refusal(p, exponents, values);
+    if number != 0 {
+        return Answer::Refused(number);
     }
-    let set = bytes[0];
-    if 4 < set {
-        return 2;
-    }
-    let p = params_of(set);
+    copy_u16(exponents, js);
+    copy_u32(values, vs);
+    Answer::Done
+}
+
+// Reads a public key of the set with these numbers.
+fn read_public_key_in(p: Params, bytes: &[u8], js: &mut [u16], vs: &mut [u32]) -> Answer
+    requires { ⌜ Limited p ⌝ }
+    ensures { λ r. ⌜ PublicKeyRead p (now (bytes .entry)) r (now (js .entry)) (now (js .exit)) (now (vs .entry)) (now (vs .exit)) ⌝ }
+{
     let t = p.t;
-    if bytes.len() != 1 + 2 * t + 3 * t {
-        return 1;
+    let size = public_key_size(p);
+    if !((bytes.len() == size) & ((js.len() == t) & (vs.len() == t))) {
+        return Answer::Refused(WRONG_LENGTH);
     }
-    if exponents_room != t {
-        return 1;
-    }
-    if evaluations_room != t {
-        return 1;
-    }
-    if !has_exponents(p, bytes) {
-        return 4;
-    }
-    if has_evaluations(p, bytes) {
-        return 0;
-    }
-    7
+    let key = decode_public_key(p, &bytes[1..]);
+    let exponents = key.exponents;
+    let evaluations = key.evaluations;
+    store_public_key(p, &exponents[..t], &evaluations[..t], js, vs)
 }
 
 // Reads a public key, t exponents and t evaluations. Refuses with 1, 2, 1, 4, 7.
@@ -130,43 +145,31 @@ pub fn read_public_key(bytes: &[u8], exponents: &mut [u16], evaluations: &mut [u
     ensures exponents { λ r. ⌜ now (exponents .exit) ≡ readExponentsWritten (now (bytes .entry)) (now (exponents .entry)) (now (evaluations .entry)) ⌝ }
     ensures values { λ r. ⌜ now (evaluations .exit) ≡ readEvaluationsWritten (now (bytes .entry)) (now (exponents .entry)) (now (evaluations .entry)) ⌝ }
 {
-    let refusal = read_public_key_refusal(bytes, exponents.len(), evaluations.len());
-    if refusal != 0 {
-        return Answer::Refused(refusal);
+    if bytes.len() == 0 {
+        return Answer::Refused(WRONG_LENGTH);
     }
-    let at = 1 + 2 * exponents.len();
-    read_words(&bytes[1..at], exponents);
-    read_triples(&bytes[at..], evaluations);
-    Answer::Done
+    let set = bytes[0];
+    if !is_set(set) {
+        return Answer::Refused(WRONG_SET);
+    }
+    let p = params_of(set);
+    read_public_key_in(p, bytes, exponents, evaluations)
 }
 
 // The refusal of writing a public key, or 0.
 fn write_public_key_refusal(set: u8, exponents: &[u16], evaluations: &[u32], room: usize) -> u32
     ensures { λ r. ⌜ r ≡ writePublicKeyRefusal set (now (exponents .entry)) (now (evaluations .entry)) room ⌝ }
 {
-    if 4 < set {
-        return 2;
-    }
     let p = params_of(set);
-    let n = p.n;
     let t = p.t;
-    let q = p.q;
-    if exponents.len() != t {
-        return 1;
-    }
-    if evaluations.len() != t {
-        return 1;
-    }
-    if room != 1 + 2 * t + 3 * t {
-        return 1;
-    }
-    if !are_exponents(exponents, n) {
-        return 4;
-    }
-    if are_below(evaluations, q) {
-        return 0;
-    }
-    7
+    let size = public_key_size(p);
+    let lists = public_key_refusal(p, exponents, evaluations);
+    let lengths = unless(
+        (exponents.len() == t) & ((evaluations.len() == t) & (room == size)),
+        WRONG_LENGTH,
+        lists,
+    );
+    unless(is_set(set), WRONG_SET, lengths)
 }
 
 // Writes a public key. Refuses with 2, 1, 4, 7.
@@ -174,41 +177,43 @@ pub fn write_public_key(set: u8, exponents: &[u16], evaluations: &[u32], out: &m
     ensures answer { λ r. ⌜ r ≡ answerOf (writePublicKeyRefusal set (now (exponents .entry)) (now (evaluations .entry)) (length (now (out .entry)))) ⌝ }
     ensures written { λ r. ⌜ now (out .exit) ≡ writePublicKeyWritten set (now (exponents .entry)) (now (evaluations .entry)) (now (out .entry)) ⌝ }
 {
-    let refusal = write_public_key_refusal(set, exponents, evaluations, out.len());
-    if refusal != 0 {
-        return Answer::Refused(refusal);
+    let number = write_public_key_refusal(set, exponents, evaluations, out.len());
+    if number != 0 {
+        return Answer::Refused(number);
     }
     put_public_key(set, exponents, evaluations, out);
     Answer::Done
 }
 
-// The refusal of reading a signature, or 0.
-fn read_signature_refusal(bytes: &[u8], entries_room: usize, z_room: usize) -> u32
-    ensures { λ r. ⌜ r ≡ readSignatureRefusal (now (bytes .entry)) «entries_room» «z_room» ⌝ }
+// Hands out what a signature holds, unless it is refused.
+fn store_signature(n: usize, entries: &[u16], z: &[i16], es: &mut [u16], zs: &mut [i16]) -> Answer
+    requires { ⌜ (length (now es) ≡ length (now entries)) × (length (now zs) ≡ length (now z)) ⌝ }
+    ensures { λ r. ⌜ SignatureOut n (now (entries .entry)) (now (z .entry)) r (now (es .entry)) (now (es .exit)) (now (zs .entry)) (now (zs .exit)) ⌝ }
 {
-    if bytes.len() == 0 {
-        return 1;
+    let number = unless(are_entries_of(entries, n), WRONG_ENTRIES, 0);
+    if number != 0 {
+        return Answer::Refused(number);
     }
-    let set = bytes[0];
-    if 4 < set {
-        return 2;
-    }
-    let p = params_of(set);
+    copy_u16(entries, es);
+    copy_i16(z, zs);
+    Answer::Done
+}
+
+// Reads a signature of the set with these numbers.
+fn read_signature_in(p: Params, bytes: &[u8], es: &mut [u16], zs: &mut [i16]) -> Answer
+    requires { ⌜ Limited p ⌝ }
+    ensures { λ r. ⌜ SignatureRead p (now (bytes .entry)) r (now (es .entry)) (now (es .exit)) (now (zs .entry)) (now (zs .exit)) ⌝ }
+{
     let n = p.n;
     let b = p.b;
-    if bytes.len() != 1 + 2 * b + 2 * n {
-        return 1;
+    let size = signature_size(p);
+    if !((bytes.len() == size) & ((es.len() == b) & (zs.len() == n))) {
+        return Answer::Refused(WRONG_LENGTH);
     }
-    if entries_room != b {
-        return 1;
-    }
-    if z_room != n {
-        return 1;
-    }
-    if has_entries(p, bytes) {
-        return 0;
-    }
-    12
+    let signature = decode_signature(p, &bytes[1..]);
+    let entries = signature.entries;
+    let z = signature.z;
+    store_signature(n, &entries[..b], &z[..n], es, zs)
 }
 
 // Reads a signature, b challenge entries and N coefficients. Refuses with 1, 2, 1, 12.
@@ -217,39 +222,32 @@ pub fn read_signature(bytes: &[u8], entries: &mut [u16], z: &mut [i16]) -> Answe
     ensures challenge { λ r. ⌜ now (entries .exit) ≡ readEntriesWritten (now (bytes .entry)) (now (entries .entry)) (now (z .entry)) ⌝ }
     ensures zOf { λ r. ⌜ now (z .exit) ≡ readZWritten (now (bytes .entry)) (now (entries .entry)) (now (z .entry)) ⌝ }
 {
-    let refusal = read_signature_refusal(bytes, entries.len(), z.len());
-    if refusal != 0 {
-        return Answer::Refused(refusal);
+    if bytes.len() == 0 {
+        return Answer::Refused(WRONG_LENGTH);
     }
-    let at = 1 + 2 * entries.len();
-    read_words(&bytes[1..at], entries);
-    read_signed_words(&bytes[at..], z);
-    Answer::Done
+    let set = bytes[0];
+    if !is_set(set) {
+        return Answer::Refused(WRONG_SET);
+    }
+    let p = params_of(set);
+    read_signature_in(p, bytes, entries, z)
 }
 
 // The refusal of writing a signature, or 0.
 fn write_signature_refusal(set: u8, entries: &[u16], z: &[i16], room: usize) -> u32
     ensures { λ r. ⌜ r ≡ writeSignatureRefusal set (now (entries .entry)) (now (z .entry)) room ⌝ }
 {
-    if 4 < set {
-        return 2;
-    }
     let p = params_of(set);
     let n = p.n;
     let b = p.b;
-    if entries.len() != b {
-        return 1;
-    }
-    if z.len() != n {
-        return 1;
-    }
-    if room != 1 + 2 * b + 2 * n {
-        return 1;
-    }
-    if are_entries_of(entries, n) {
-        return 0;
-    }
-    12
+    let size = signature_size(p);
+    let rise = unless(are_entries_of(entries, n), WRONG_ENTRIES, 0);
+    let lengths = unless(
+        (entries.len() == b) & ((z.len() == n) & (room == size)),
+        WRONG_LENGTH,
+        rise,
+    );
+    unless(is_set(set), WRONG_SET, lengths)
 }
 
 // Writes a signature. Refuses with 2, 1, 12.
@@ -257,9 +255,9 @@ pub fn write_signature(set: u8, entries: &[u16], z: &[i16], out: &mut [u8]) -> A
     ensures answer { λ r. ⌜ r ≡ answerOf (writeSignatureRefusal set (now (entries .entry)) (now (z .entry)) (length (now (out .entry)))) ⌝ }
     ensures written { λ r. ⌜ now (out .exit) ≡ writeSignatureWritten set (now (entries .entry)) (now (z .entry)) (now (out .entry)) ⌝ }
 {
-    let refusal = write_signature_refusal(set, entries, z, out.len());
-    if refusal != 0 {
-        return Answer::Refused(refusal);
+    let number = write_signature_refusal(set, entries, z, out.len());
+    if number != 0 {
+        return Answer::Refused(number);
     }
     put_signature(set, entries, z, out);
     Answer::Done

@@ -1,27 +1,19 @@
--- Buffers that calls fill by parts: the front of an array, and a first byte, a middle and an end.
+-- A buffer that calls fill by parts: a first byte, a middle and an end.
 -- Assumes nothing.
-use mathlib.Core.Path.{_≡_, refl, sym, ap, ap₂, _∙_}
+use mathlib.Core.Path.{_≡_, refl, ap, ap₂, _∙_}
 use mathlib.Core.List.{List, [], _∷_, _++_, append-nil}
-use Prim.Native.Nat.{ℕ, _+_, _-_, _≤_, _<_}
+use Prim.Native.Nat.{ℕ, _+_, _-_, _<_}
 use native.Mathlib.Omega.{arith}
 use lib.ListN.{length, take, drop, set, length-append, length-drop, drop-of-length-le}
 use lib.Seq.{length-take-le, take-at, drop-at}
 use borrow.Rule.Slice.PartMut.{putMid}
 
--- an array whose first n elements are l
-module _ {A : Type 0} (l rest : List A) (n : ℕ) (size : length l ≡ n) where
-  pub front-room : n ≤ length (l ++ rest)
-  front-room = omega (arith, length-append l rest)
-
-  pub front-length : n ≡ length (take n (l ++ rest))
-  front-length = sym (ap length (take-at l rest n size) ∙ size)
-
-  -- v in place of the rest
-  end-put : (v : List A) → putMid n (length (l ++ rest) - n) (l ++ rest) v ≡ l ++ v
-  end-put v =
-      ap₂ _++_ (take-at l rest n size)
-      (ap (λ (r : List A). v ++ r) (ap (drop (length (l ++ rest) - n)) (drop-at l rest n size) ∙ drop-of-length-le rest {i = length (l ++ rest) - n} (omega (arith, length-append l rest)))
-      ∙ append-nil v)
+-- v in place of all behind the first n elements, which are l
+end-put : {A : Type 0} (l rest : List A) (n : ℕ) → length l ≡ n → (v : List A) → putMid n (length (l ++ rest) - n) (l ++ rest) v ≡ l ++ v
+end-put {A} l rest n size v =
+    let m = length (l ++ rest) - n in
+    let none = ap (drop m) (drop-at l rest n size) ∙ drop-of-length-le rest {i = m} (omega (arith, length-append l rest)) in
+    ap₂ _++_ (take-at l rest n size) (ap (λ (r : List A). v ++ r) none ∙ append-nil v)
 
 -- the byte s in front, and u in place of the m bytes after it
 front-put : (out u : List ℕ) (s m : ℕ) → 0 < length out → putMid 1 m (set out 0 s) u ≡ (s ∷ u) ++ drop m (drop 1 out)

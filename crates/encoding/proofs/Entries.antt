@@ -1,7 +1,7 @@
 -- A challenge and its entries, one coefficient a turn.
 -- Assumes nothing.
 use mathlib.Core.Path.{_≡_, refl, sym, ap, _∙_}
-use mathlib.Core.Bool.{Bool, true, false}
+use mathlib.Core.Bool.{Bool, true, false, cond}
 use mathlib.Core.List.{List, [], _∷_, _++_, append-nil}
 use Prim.Native.Nat.{ℕ, zero, suc, _+_, _-_, _≤_, _<_}
 use native.Mathlib.Numerals.{add-one}
@@ -11,32 +11,33 @@ use lib.IntN.{ℤ, pos, negsuc}
 use lib.ListN.{length, getD, take, drop, set, length-append, drop-of-length-le}
 use lib.Seq.{drop-cons, drop-drop, take-suc-set, append-snoc, length-take-le, take-all}
 use borrow.Author.Tests.{eq-eqb, ne-eqb}
-use Rattle.algebra.specs.Choice.{pick}
 use Rattle.encoding.specs.Challenge.{indexOf, coefficientOf, coefficientAt, coefficientsFrom, entryOf, entriesFrom}
 
 -- ---- reading: the next coefficient, and what is left of the entries
 
-not-zero : (t : Bool) → pick t (pos 1) (negsuc 0) ≡ pos 0 → ⊥
+not-zero : (t : Bool) → cond t (pos 1) (negsuc 0) ≡ pos 0 → ⊥
 not-zero true e = let z : _≡_ {A = ℕ} 0 1 = cc in omega arith
 not-zero false e = let z : _≡_ {A = ℕ} 0 1 = cc in omega arith
 
 -- an entry that is used, and one that is not, by the test of its index
-used : (t : Bool) (a : ℤ) (p q : List ℤ) → (pick t a (pos 0) ≡ pos 0 → ⊥) → pick t (a ∷ p) (pos 0 ∷ q) ≡ pick t a (pos 0) ∷ p
+used : (t : Bool) (a : ℤ) (p q : List ℤ) → (cond t a (pos 0) ≡ pos 0 → ⊥) → cond t (a ∷ p) (pos 0 ∷ q) ≡ cond t a (pos 0) ∷ p
 used true a p q h = refl
 used false a p q h = absurd (h refl)
 
-kept : (t : Bool) (a : ℤ) (p q : List ℤ) → (a ≡ pos 0 → ⊥) → pick t a (pos 0) ≡ pos 0 → pick t (a ∷ p) (pos 0 ∷ q) ≡ pos 0 ∷ q
+kept : (t : Bool) (a : ℤ) (p q : List ℤ) → (a ≡ pos 0 → ⊥) → cond t a (pos 0) ≡ pos 0 → cond t (a ∷ p) (pos 0 ∷ q) ≡ pos 0 ∷ q
 kept true a p q h e = absurd (h e)
 kept false a p q h e = refl
 
 module _ (i n : ℕ) where
-  coefficients-used : (es : List ℕ) → (coefficientAt i es ≡ pos 0 → ⊥) → coefficientsFrom i (suc n) es ≡ coefficientAt i es ∷ coefficientsFrom (suc i) n (drop 1 es)
+  coefficients-used : (es : List ℕ) → (coefficientAt i es ≡ pos 0 → ⊥)
+      → coefficientsFrom i (suc n) es ≡ coefficientAt i es ∷ coefficientsFrom (suc i) n (drop 1 es)
   coefficients-used [] h = absurd (h refl)
   coefficients-used (e ∷ es) h = used (eqb (indexOf e) i) (coefficientOf e) (coefficientsFrom (suc i) n es) (coefficientsFrom (suc i) n (e ∷ es)) h
 
   coefficients-kept : (es : List ℕ) → coefficientAt i es ≡ pos 0 → coefficientsFrom i (suc n) es ≡ pos 0 ∷ coefficientsFrom (suc i) n es
   coefficients-kept [] h = refl
-  coefficients-kept (e ∷ es) h = kept (eqb (indexOf e) i) (coefficientOf e) (coefficientsFrom (suc i) n es) (coefficientsFrom (suc i) n (e ∷ es)) (not-zero (ltb e 32768)) h
+  coefficients-kept (e ∷ es) h =
+      kept (eqb (indexOf e) i) (coefficientOf e) (coefficientsFrom (suc i) n es) (coefficientsFrom (suc i) n (e ∷ es)) (not-zero (ltb e 32768)) h
 
 -- the next coefficient where k entries are used
 module _ (es : List ℕ) (k i : ℕ) where
@@ -56,7 +57,8 @@ Read es n c k i = coefficientsFrom 0 n es ≡ take i c ++ coefficientsFrom i (n 
 pub read-none : (es : List ℕ) (n : ℕ) (c : List ℤ) → Read es n c 0 0
 read-none es n c = let e : n ≡ n - 0 = omega arith in ap (λ (x : ℕ). coefficientsFrom 0 x es) e
 
-module _ (es : List ℕ) (n : ℕ) (c : List ℤ) (k i : ℕ) (l : length c ≡ n) (h : i < length c) {a : ℤ} (e : a ≡ coefficientAt i (drop k es)) (s : Read es n c k i) where
+module _ (es : List ℕ) (n : ℕ) (c : List ℤ) (k i : ℕ) (l : length c ≡ n) (h : i < length c) {a : ℤ}
+    (e : a ≡ coefficientAt i (drop k es)) (s : Read es n c k i) where
   -- the coefficient a is stored at i, and r are the entries that are left
   stored : (r : List ℕ) → coefficientsFrom i (suc (n - (i + 1))) (drop k es) ≡ a ∷ coefficientsFrom (suc i) (n - (i + 1)) r
       → coefficientsFrom 0 n es ≡ take (i + 1) (set c i a) ++ coefficientsFrom (i + 1) (n - (i + 1)) r
@@ -112,7 +114,8 @@ module _ (c : List ℤ) (es : List ℕ) (k i : ℕ) (h : i < length c) (b : k �
     -- there is room for an entry
     pub put-room : length es ≡ length (entriesFrom 0 c) → k < length es
     put-room l =
-        omega (arith, l ∙ ap length next ∙ length-append (take k es) (entryOf i (getD c i (pos 0)) ∷ entriesFrom (i + 1) (drop (i + 1) c)), length-take-le k es b)
+        let rest = entryOf i (getD c i (pos 0)) ∷ entriesFrom (i + 1) (drop (i + 1) c) in
+        omega (arith, l ∙ ap length next ∙ length-append (take k es) rest, length-take-le k es b)
 
     pub put-more : {v : ℕ} → k < length es → v ≡ entryOf i (getD c i (pos 0)) → Put c (set es k v) (k + 1) (i + 1)
     put-more {v} r e =

@@ -11,7 +11,8 @@ use lib.ListN.{length}
 use borrow.Author.Tests.{lt-ltb, le-ltb, eq-eqb, ne-eqb, ltb-true, ltb-false, eqb-true, eqb-false}
 use Rattle.algebra.specs.Integer.{within}
 use Rattle.algebra.proofs.Test.{and-left, and-right, and-intro, by-test}
-use Rattle.encoding.specs.Bytes.{areBelow, increasing}
+use Rattle.algebra.specs.All.{areBelow}
+use Rattle.encoding.specs.Bytes.{increasing}
 use Rattle.encoding.specs.Challenge.{indexOf, coefficientOf, coefficientsFrom, entriesFrom}
 
 -- the two entries of an index
@@ -111,7 +112,8 @@ module _ (i : ℕ) (c : List ℤ) where
       (λ t. let x : i ≡ e = sym q ∙ entry-plus e t in rw t (ap (λ (y : ℕ). y ∷ entriesFrom (suc i) c) x))
       (λ t. let x : i + 32768 ≡ e = ap (λ (y : ℕ). y + 32768) (sym q) ∙ entry-minus e t b in rw t (ap (λ (y : ℕ). y ∷ entriesFrom (suc i) c) x))
 
-pub entries-of-coefficients : (k i n : ℕ) (es : List ℕ) → n ≡ i + k → T (increasing n i (map indexOf es)) → T (areBelow 65536 es) → entriesFrom i (coefficientsFrom i k es) ≡ es
+pub entries-of-coefficients : (k i n : ℕ) (es : List ℕ) → n ≡ i + k → T (increasing n i (map indexOf es)) → T (areBelow 65536 es)
+    → entriesFrom i (coefficientsFrom i k es) ≡ es
 entries-of-coefficients zero i n [] s t b = refl
 entries-of-coefficients zero i n (e ∷ es) s t b = let (h, l, r) = first-number n i (indexOf e) (map indexOf es) t in absurd (omega arith)
 entries-of-coefficients (suc k) i n [] s t b = entries-of-coefficients k (suc i) n [] (omega arith) tt tt

@@ -1,24 +1,18 @@
--- What the evaluator asks, met by a set that the code has looked up and by exponents that rise.
+-- What the evaluator asks of exponents, met by those that rise.
 -- Assumes nothing.
 use mathlib.Core.Path.{_≡_}
 use mathlib.Core.Bool.{true}
 use mathlib.Core.List.{List}
-use Prim.Native.Nat.{ℕ, _<_}
-use lib.IntN.{ℤ}
-use lib.ListN.{length, take}
+use Prim.Native.Nat.{ℕ}
+use lib.Dec.{T, ltb, lt→ltb}
+use lib.ListN.{getD}
+use Rattle.algebra.specs.All.{areBelow}
+use Rattle.algebra.proofs.All.{all-from}
 use Rattle.algebra.proofs.Test.{true-holds}
 use Rattle.parameters.specs.declared.Params.{Params}
-use Rattle.parameters.specs.Sets.{setOf}
-use Rattle.parameters.specs.Sound.{PowersOf}
-use Rattle.polynomial.specs.Evaluation.{Below, Evaluable}
 use Rattle.encoding.specs.Encoding.{areExponents}
 use Rattle.encoding.proofs.Testing.{increasing-below}
-use Rattle.parameters.proofs.Lookup.{lookup-sound, lookup-fitting, lookup-powers}
 
-pub lookup-evaluable : {p : Params} (s : ℕ) → s < 5 → p ≡ setOf s → (table : List ℕ) → PowersOf (setOf s) (take (setOf s .n) table) → (f : List ℤ) → length f ≡ p .n
-    → Evaluable p (take (p .n) table) f
-lookup-evaluable s known is table t f size =
-    record { sound = lookup-sound s known is; fitting = lookup-fitting s known is; table = lookup-powers s known is table t; size = size }
-
-pub exponents-below : (p : Params) (exponents : List ℕ) → areExponents p exponents ≡ true → Below (p .n) exponents
-exponents-below p exponents rise = increasing-below (p .n) 1 exponents (true-holds rise)
+pub exponents-below : (p : Params) (exponents : List ℕ) → areExponents p exponents ≡ true → T (areBelow (p .n) exponents)
+exponents-below p exponents rise =
+    all-from (λ (j : ℕ). ltb j (p .n)) exponents 0 (λ i h. lt→ltb (getD exponents i 0) (p .n) (increasing-below (p .n) 1 exponents (true-holds rise) i h))

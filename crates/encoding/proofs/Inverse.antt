@@ -13,10 +13,10 @@ use lib.ListN.{length, getD, take, drop, length-drop, take-append-drop}
 use lib.Seq.{take-suc, take-add, take-at, drop-at, take-all}
 use lib.Signed.{mag}
 use borrow.Author.Tests.{lt-ltb, le-ltb}
-use Rattle.algebra.specs.All.{all}
+use Rattle.algebra.specs.All.{all, areBelow}
 use Rattle.algebra.proofs.All.{all-drop, below-at}
 use Rattle.algebra.proofs.Test.{and-left, and-right, and-intro, by-test}
-use Rattle.encoding.specs.Bytes.{bigEndian, valueAfter, valueOf, numbers, encoded, bits16, signed16, areBelow}
+use Rattle.encoding.specs.Bytes.{bigEndian, valueAfter, valueOf, numbers, encoded, bits16, signed16}
 use Rattle.encoding.proofs.Writing.{length-bytes, length-encoded}
 
 -- ---- lists
@@ -102,7 +102,8 @@ module _ (u m w k : ℕ) where
       ap (numbers w k) (drop-at (encoded u a) (encoded w b) (u * m) (length-encoded u a ∙ ap (λ (x : ℕ). u * x) l) ∙ sym (append-nil (encoded w b)))
       ∙ ap (λ (x : ℕ). numbers w x (encoded w b ++ [])) (sym h) ∙ numbers-of-encoded w b [] t
 
-  pub written-both : (xs : List ℕ) → length xs ≡ u * m + w * k → T (areBelow 256 xs) → encoded u (numbers u m xs) ++ encoded w (numbers w k (drop (u * m) xs)) ≡ xs
+  pub written-both : (xs : List ℕ) → length xs ≡ u * m + w * k → T (areBelow 256 xs)
+      → encoded u (numbers u m xs) ++ encoded w (numbers w k (drop (u * m) xs)) ≡ xs
   written-both xs l t =
       let d : length (drop (u * m) xs) ≡ w * k = omega (arith, length-drop (u * m) xs) in
       ap₂ (λ (x y : List ℕ). x ++ y) (encoded-of-numbers u m xs (omega arith) t)

@@ -8,6 +8,7 @@ pub mod Inverse
 pub mod EntriesInverse
 pub mod OneEncoding
 pub mod Parts
+pub mod Decoded
 pub mod Buffer
 pub mod EncodedKey
 pub mod Evaluating

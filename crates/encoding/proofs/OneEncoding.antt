@@ -1,6 +1,7 @@
 -- Document 01, "Encodings": one meaning has one encoding. What is written is read back, and what is read is written back to the same bytes.
 -- Assumes nothing.
 use mathlib.Core.Path.{_≡_, refl, sym, ap, ap₂, _∙_}
+use mathlib.Core.Bool.{Bool}
 use mathlib.Core.List.{List, [], _∷_, _++_, map}
 use Prim.Native.Nat.{ℕ, zero, suc, _+_, _*_, _≤_, _<_}
 use native.Mathlib.Nat.{not-suc-le-zero}
@@ -14,9 +15,12 @@ use Rattle.algebra.specs.Integer.{within}
 use Rattle.algebra.proofs.All.{all-drop, all-map}
 use Rattle.algebra.proofs.Test.{by-test}
 use Rattle.parameters.specs.declared.Params.{Params}
-use Rattle.encoding.specs.Bytes.{numbers, encoded, bits16, signed16, areBelow}
+use Rattle.algebra.specs.All.{areBelow}
+use Rattle.encoding.specs.Bytes.{numbers, encoded, bits16, signed16}
 use Rattle.encoding.specs.Challenge.{areEntries, challengeOf, entriesOf}
-use Rattle.encoding.specs.Encoding.{secretKeySize, isKeyByte, keyCoefficient, keyByte, secretKey, isKey, keyOf, publicKeySize, publicKey, PublicKeyRange, exponentsOf, evaluationsOf, signatureSize, signatureBytes, SignatureRange, entriesRead, zRead}
+use Rattle.encoding.specs.Encoding.{secretKeySize, isKeyByte, keyCoefficient, keyByte, secretKey, isKey, keyOf}
+use Rattle.encoding.specs.Encoding.{publicKeySize, publicKey, PublicKeyRange, exponentsOf, evaluationsOf}
+use Rattle.encoding.specs.Encoding.{signatureSize, signatureBytes, SignatureRange, entriesRead, zRead}
 use Rattle.encoding.proofs.Writing.{length-encoded}
 use Rattle.encoding.proofs.Inverse as inverse
 use Rattle.encoding.proofs.EntriesInverse as entries-inverse
@@ -57,6 +61,10 @@ key-written-back (x ∷ xs) h = ap (λ (l : List ℕ). x ∷ l) (bytes-back xs)
 
 -- ---- a public key
 
+-- the length of a set byte and two lists of numbers
+length-both : (u w : ℕ) (s : ℕ) (a b : List ℕ) → length (s ∷ (encoded u a ++ encoded w b)) ≡ 1 + u * length a + w * length b
+length-both u w s a b = omega (arith, length-append (encoded u a) (encoded w b), length-encoded u a, length-encoded w b)
+
 module _ (p : Params) (s : ℕ) (exponents evaluations : List ℕ) (r : PublicKeyRange p exponents evaluations) where
   -- its exponents and its evaluations are read back
   pub exponents-read-back : exponentsOf p (publicKey s exponents evaluations) ≡ exponents
@@ -66,21 +74,20 @@ module _ (p : Params) (s : ℕ) (exponents evaluations : List ℕ) (r : PublicKe
   pub evaluations-read-back : evaluationsOf p (publicKey s exponents evaluations) ≡ evaluations
   unfolding evaluationsOf publicKey
   evaluations-read-back =
-      let e : 1 + 2 * p .t ≡ suc (2 * p .t) = omega arith in
-      rw e (inverse.read-second 2 (p .t) 3 (p .t) exponents evaluations (r .exponents-length) (r .evaluations-length) (r .evaluations-below))
+      inverse.read-second 2 (p .t) 3 (p .t) exponents evaluations (r .exponents-length) (r .evaluations-length) (r .evaluations-below)
 
   pub public-key-length : length (publicKey s exponents evaluations) ≡ publicKeySize p
   unfolding publicKey
   public-key-length =
-      omega (arith, length-append (encoded 2 exponents) (encoded 3 evaluations), length-encoded 2 exponents, length-encoded 3 evaluations, r .exponents-length, r .evaluations-length)
+      length-both 2 3 s exponents evaluations ∙ omega (arith, r .exponents-length, r .evaluations-length)
 
 -- bytes that are read as a public key are written back
-pub public-key-written-back : (p : Params) (xs : List ℕ) → length xs ≡ publicKeySize p → T (areBelow 256 xs) → publicKey (getD xs 0 0) (exponentsOf p xs) (evaluationsOf p xs) ≡ xs
+pub public-key-written-back : (p : Params) (xs : List ℕ) → length xs ≡ publicKeySize p → T (areBelow 256 xs)
+    → publicKey (getD xs 0 0) (exponentsOf p xs) (evaluationsOf p xs) ≡ xs
 unfolding publicKey exponentsOf evaluationsOf
 public-key-written-back p [] l t = absurd (omega arith)
 public-key-written-back p (x ∷ xs) l t =
-    let e : 1 + 2 * p .t ≡ suc (2 * p .t) = omega arith in
-    rw e (ap (λ (y : List ℕ). x ∷ y) (inverse.written-both 2 (p .t) 3 (p .t) xs (omega arith) (all-drop (λ (y : ℕ). ltb y 256) 1 (x ∷ xs) t)))
+    ap (λ (y : List ℕ). x ∷ y) (inverse.written-both 2 (p .t) 3 (p .t) xs (omega arith) (all-drop (λ (y : ℕ). ltb y 256) 1 (x ∷ xs) t))
 
 -- ---- a signature
 
@@ -93,37 +100,29 @@ module _ (p : Params) (s : ℕ) (entries : List ℕ) (z : List ℤ) (r : Signatu
   pub z-read-back : zRead p (signatureBytes s entries z) ≡ z
   unfolding zRead signatureBytes
   z-read-back =
-      let e : 1 + 2 * p .b ≡ suc (2 * p .b) = omega arith in
-      let b : T (areBelow 65536 (map bits16 z)) = all-map bits16 (λ (y : ℤ). ltb (mag y) 32768) (λ (v : ℕ). ltb v 65536) inverse.bits-below z (r .z-signed) in
-      rw e
-      (ap (map signed16) (inverse.read-second 2 (p .b) 2 (p .n) entries (map bits16 z) (r .entries-length) (length-map z bits16 ∙ r .z-length) b)
-      ∙ inverse.map-back bits16 signed16 (λ (y : ℤ). ltb (mag y) 32768) inverse.signed-of-bits z (r .z-signed))
+      let small : ℤ → Bool = λ (y : ℤ). ltb (mag y) 32768 in
+      let b : T (areBelow 65536 (map bits16 z)) = all-map bits16 small (λ (v : ℕ). ltb v 65536) inverse.bits-below z (r .z-signed) in
+      ap (map signed16) (inverse.read-second 2 (p .b) 2 (p .n) entries (map bits16 z) (r .entries-length) (length-map z bits16 ∙ r .z-length) b)
+      ∙ inverse.map-back bits16 signed16 small inverse.signed-of-bits z (r .z-signed)
 
   pub signature-length : length (signatureBytes s entries z) ≡ signatureSize p
   unfolding signatureBytes
   signature-length =
-      omega (
-        arith,
-        length-append (encoded 2 entries) (encoded 2 (map bits16 z)),
-        length-encoded 2 entries,
-        length-encoded 2 (map bits16 z),
-        length-map z bits16,
-        r .entries-length,
-        r .z-length,
-      )
+      length-both 2 2 s entries (map bits16 z) ∙ omega (arith, length-map z bits16, r .entries-length, r .z-length)
 
 -- bytes that are read as a signature are written back
-pub signature-written-back : (p : Params) (xs : List ℕ) → length xs ≡ signatureSize p → T (areBelow 256 xs) → signatureBytes (getD xs 0 0) (entriesRead p xs) (zRead p xs) ≡ xs
+pub signature-written-back : (p : Params) (xs : List ℕ) → length xs ≡ signatureSize p → T (areBelow 256 xs)
+    → signatureBytes (getD xs 0 0) (entriesRead p xs) (zRead p xs) ≡ xs
 unfolding signatureBytes entriesRead zRead
 signature-written-back p [] l t = absurd (omega arith)
 signature-written-back p (x ∷ xs) l t =
-    let e : 1 + 2 * p .b ≡ suc (2 * p .b) = omega arith in
     let bytes : T (areBelow 256 xs) = all-drop (λ (y : ℕ). ltb y 256) 1 (x ∷ xs) t in
-    let zOf : List ℕ = numbers 2 (p .n) (drop (2 * p .b) xs) in
-    let below : T (areBelow 65536 zOf) = inverse.numbers-below 2 (p .n) (drop (2 * p .b) xs) (omega (arith, length-drop (2 * p .b) xs)) (all-drop (λ (y : ℕ). ltb y 256) (2 * p .b) xs bytes) in
-    rw e
-    (ap (λ (y : List ℕ). x ∷ (encoded 2 (numbers 2 (p .b) xs) ++ encoded 2 y)) (inverse.map-back signed16 bits16 (λ (v : ℕ). ltb v 65536) inverse.bits-of-signed zOf below)
-    ∙ ap (λ (y : List ℕ). x ∷ y) (inverse.written-both 2 (p .b) 2 (p .n) xs (omega arith) bytes))
+    let end : List ℕ = drop (2 * p .b) xs in
+    let below : T (areBelow 65536 (numbers 2 (p .n) end)) =
+    inverse.numbers-below 2 (p .n) end (omega (arith, length-drop (2 * p .b) xs)) (all-drop (λ (y : ℕ). ltb y 256) (2 * p .b) xs bytes) in
+    ap (λ (y : List ℕ). x ∷ (encoded 2 (numbers 2 (p .b) xs) ++ encoded 2 y))
+    (inverse.map-back signed16 bits16 (λ (v : ℕ). ltb v 65536) inverse.bits-of-signed (numbers 2 (p .n) end) below)
+    ∙ ap (λ (y : List ℕ). x ∷ y) (inverse.written-both 2 (p .b) 2 (p .n) xs (omega arith) bytes)
 
 -- ---- a challenge
 
@@ -148,10 +147,13 @@ pub signature-of-meaning : (p : Params) (xs : List ℕ) → length xs ≡ signat
     → signatureBytes (getD xs 0 0) (entriesOf (challengeOf (p .n) (entriesRead p xs))) (zRead p xs) ≡ xs
 unfolding entriesRead
 signature-of-meaning p xs l t allowed =
-    let below : T (areBelow 65536 (entriesRead p xs)) = inverse.numbers-below 2 (p .b) (drop 1 xs) (omega (arith, length-drop 1 xs)) (all-drop (λ (y : ℕ). ltb y 256) 1 xs t) in
-    ap (λ (es : List ℕ). signatureBytes (getD xs 0 0) es (zRead p xs)) (entries-written-back (p .n) (entriesRead p xs) allowed below) ∙ signature-written-back p xs l t
+    let bytes = all-drop (λ (y : ℕ). ltb y 256) 1 xs t in
+    let below : T (areBelow 65536 (entriesRead p xs)) = inverse.numbers-below 2 (p .b) (drop 1 xs) (omega (arith, length-drop 1 xs)) bytes in
+    ap (λ (es : List ℕ). signatureBytes (getD xs 0 0) es (zRead p xs)) (entries-written-back (p .n) (entriesRead p xs) allowed below)
+    ∙ signature-written-back p xs l t
 
--- two byte strings that are accepted, with the same first byte and the same meaning, are the same bytes; asked of them is only what is used of their being accepted
+-- two byte strings that are accepted, with the same first byte and the same meaning, are the same bytes; asked of them is only what is used of their being
+-- accepted
 module _ (p : Params) (xs ys : List ℕ) (first : getD xs 0 0 ≡ getD ys 0 0) where
   -- signatures that have the same challenge and the same point
   pub one-signature : length xs ≡ signatureSize p → T (areBelow 256 xs) → T (areEntries (p .n) (entriesRead p xs))

@@ -14,9 +14,8 @@ use Rattle.encoding.specs.Bytes.{valueOf, numbers, parts}
 pub take-rest : {A : Type 0} (l : List A) (k : ℕ) → take (length l - k) (drop k l) ≡ drop k l
 take-rest l k = take-all (length l - k) (drop k l) (omega (arith, length-drop k l))
 
--- m elements after the first
-pub part-size : (l : List ℕ) (m : ℕ) → 1 + m ≤ length l → length (take (1 + m - 1) (drop 1 l)) ≡ m
-part-size l m h = length-take-le (1 + m - 1) (drop 1 l) (omega (arith, length-drop 1 l)) ∙ omega arith
+pub rest-size : {A : Type 0} (l : List A) (k m : ℕ) → length l ≡ k + m → length (take (length l - k) (drop k l)) ≡ m
+rest-size l k m e = ap length (take-rest l k) ∙ length-drop k l ∙ omega arith
 
 drop-take : {A : Type 0} (m n : ℕ) (l : List A) → drop m (take (m + n) l) ≡ take n (drop m l)
 drop-take zero n l = let e : 0 + n ≡ n = omega arith in rw e
@@ -77,7 +76,7 @@ module _ {A : Type 0} (n : ℕ) where
   front-apart c l z = rw (times n c, take-add, append-assoc)
 
   -- only the front counts
-  parts-front : (count : ℕ) (l z : List A) → count * n ≤ length l → parts n count (take (count * n) l ++ z) ≡ parts n count l
+  pub parts-front : (count : ℕ) (l z : List A) → count * n ≤ length l → parts n count (take (count * n) l ++ z) ≡ parts n count l
   parts-front zero l z h = refl
   parts-front (suc c) l z h =
       let rest = take (c * n) (drop n l) ++ z in

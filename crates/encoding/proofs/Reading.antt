@@ -1,32 +1,25 @@
--- Numbers read from bytes: what one number more gives, at any width.
+-- Numbers read from bytes, at any width: each number of a list, and the bytes of a number.
 -- Assumes nothing.
-use mathlib.Core.Path.{_≡_, sym, ap, _∙_}
-use mathlib.Core.List.{List, [], _∷_, _++_, map, map-append}
+use mathlib.Core.Path.{_≡_, ap, _∙_}
+use mathlib.Core.List.{List, []}
 use Prim.Native.Nat.{ℕ, suc, _+_, _*_, _≤_, _<_}
 use native.Mathlib.Nat.{mul-comm}
 use native.Mathlib.Numerals.{add-one}
 use native.Mathlib.Omega.{arith}
-use lib.ListN.{length, getD, take, drop}
-use lib.Seq.{drop-cons, take-all}
+use lib.ListN.{length, getD, take, drop, List·getD-map}
+use lib.Seq.{drop-cons}
 use Rattle.encoding.specs.Bytes.{valueAfter, valueOf, parts, numbers}
-use Rattle.encoding.proofs.Parts.{parts-add}
+use Rattle.encoding.proofs.Parts.{parts-at}
 
 -- a byte more of a number
 pub value-more : (xs : List ℕ) (v w i j : ℕ) → i < length xs → j ≡ suc i
     → valueAfter v (take (suc w) (drop i xs)) ≡ valueAfter (v * 256 + getD xs i 0) (take w (drop j xs))
 value-more xs v w i j h e = rw (e, drop-cons xs i 0)
 
-pub numbers-more : (w m : ℕ) (xs : List ℕ) → numbers w (m + 1) xs ≡ numbers w m xs ++ (valueOf (take w (drop (w * m) xs)) ∷ [])
+-- number i of a list of numbers
+pub number-at : (w n : ℕ) (xs : List ℕ) (i : ℕ) → i < n → getD (numbers w n xs) i 0 ≡ valueOf (take w (drop (w * i) xs))
 unfolding numbers
-numbers-more w m xs = rw (mul-comm w m) (ap (map valueOf) (parts-add w m 1 xs) ∙ map-append valueOf (parts w m xs) (take w (drop (m * w) xs) ∷ []))
-
-module _ {A : Type 0} where
-  pub mapped-numbers-more : (f : ℕ → A) (w m : ℕ) (xs : List ℕ) → map f (numbers w (m + 1) xs) ≡ map f (numbers w m xs) ++ (f (valueOf (take w (drop (w * m) xs))) ∷ [])
-  mapped-numbers-more f w m xs = ap (map f) (numbers-more w m xs) ∙ map-append f (numbers w m xs) (valueOf (take w (drop (w * m) xs)) ∷ [])
-
--- a loop that is done: the whole list is what its first elements were to be
-pub filled : {A : Type 0} (l : ℕ → List A) (out : List A) (i n : ℕ) → i ≡ n → length out ≡ n → take i out ≡ l i → out ≡ l n
-filled l out i n e h g = sym (take-all i out (omega arith)) ∙ g ∙ ap l e
+number-at w n xs i h = List·getD-map valueOf (parts w n xs) i [] ∙ rw (mul-comm w i) (ap valueOf (parts-at w n xs i h))
 
 module _ (xs : List ℕ) (at : ℕ) where
   pub value-two : at + 2 ≤ length xs → valueOf (take 2 (drop at xs)) ≡ getD xs at 0 * 256 + getD xs (at + 1) 0

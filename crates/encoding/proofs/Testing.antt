@@ -28,6 +28,6 @@ module _ (n : ℕ) (vs : List ℕ) where
 -- each is below n
 pub increasing-below : (n from : ℕ) (vs : List ℕ) → T (increasing n from vs) → (i : ℕ) → i < length vs → getD vs i 0 < n
 increasing-below n from [] t i h = absurd (not-suc-le-zero h)
-increasing-below n from (v ∷ vs) t zero h = ltb→lt v n (and-left (ltb v n) (increasing n (suc v) vs) (and-right (leb from v) (ltb v n && increasing n (suc v) vs) t))
+increasing-below n from (v ∷ vs) t zero h = ltb→lt v n (and-left (ltb v n) (increasing n (suc v) vs) (and-right (leb from v) _ t))
 increasing-below n from (v ∷ vs) t (suc i) h =
-    increasing-below n (suc v) vs (and-right (ltb v n) (increasing n (suc v) vs) (and-right (leb from v) (ltb v n && increasing n (suc v) vs) t)) i (le-of-suc-le-suc h)
+    increasing-below n (suc v) vs (and-right (ltb v n) (increasing n (suc v) vs) (and-right (leb from v) _ t)) i (le-of-suc-le-suc h)

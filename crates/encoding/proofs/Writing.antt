@@ -11,7 +11,8 @@ use lib.ListN.{length, getD, take, drop, length-append}
 use lib.Seq.{sets, sets-eq, length-sets, take-suc, take-at, length-take-le, take-all}
 use Rattle.algebra.proofs.All.{all-append}
 use Rattle.algebra.proofs.Test.{and-intro}
-use Rattle.encoding.specs.Bytes.{bigEndian, encoded, areBelow}
+use Rattle.algebra.specs.All.{areBelow}
+use Rattle.encoding.specs.Bytes.{bigEndian, encoded}
 
 pub length-bytes : (w v : ℕ) → length (bigEndian w v) ≡ w
 unfolding bigEndian

@@ -1,6 +1,6 @@
 -- Numbers as bytes: many-byte numbers have the high byte first, and signed 16-bit numbers are two's complement.
 -- Assumes nothing.
-use mathlib.Core.Bool.{Bool, true, _&&_}
+use mathlib.Core.Bool.{Bool, true, _&&_, cond}
 use mathlib.Core.List.{List, [], _∷_, _++_, map, flatten}
 use Prim.Native.Nat.{ℕ, zero, suc, _+_, _-_, _*_, _/_, _%_}
 use lib.Dec.{ltb, leb}
@@ -8,7 +8,6 @@ use lib.IntN.{ℤ, pos, negsuc}
 use lib.ListN.{take, drop}
 use lib.Signed.{mag}
 use Rattle.algebra.specs.All.{all}
-use Rattle.algebra.specs.Choice.{pick}
 
 -- v in w bytes
 unfoldable pub bigEndian : ℕ → ℕ → List ℕ
@@ -43,13 +42,9 @@ bits16 (pos n) = n
 bits16 (negsuc n) = 65535 - n
 
 abbrev pub signed16 : ℕ → ℤ
-signed16 v = pick (ltb v 32768) (pos v) (negsuc (65535 - v))
+signed16 v = cond (ltb v 32768) (pos v) (negsuc (65535 - v))
 
 -- ---- ranges
-
--- each number is below n
-abbrev pub areBelow : ℕ → List ℕ → Bool
-areBelow n vs = all (λ (v : ℕ). ltb v n) vs
 
 -- each number is in -32768..32767
 abbrev pub areSigned16 : List ℤ → Bool

@@ -1,11 +1,10 @@
 -- A challenge in its encoded form: an entry for each coefficient that is not 0, the index in the low 15 bits, top bit 1 for -1.
 -- Assumes nothing.
-use mathlib.Core.Bool.{Bool}
+use mathlib.Core.Bool.{Bool, cond}
 use mathlib.Core.List.{List, [], _∷_, map}
 use Prim.Native.Nat.{ℕ, zero, suc, _+_, _%_}
 use lib.Dec.{ltb, eqb}
 use lib.IntN.{ℤ, pos, negsuc}
-use Rattle.algebra.specs.Choice.{pick}
 use Rattle.encoding.specs.Bytes.{increasing}
 
 -- an entry's index and coefficient
@@ -13,12 +12,12 @@ abbrev pub indexOf : ℕ → ℕ
 indexOf e = e % 32768
 
 abbrev pub coefficientOf : ℕ → ℤ
-coefficientOf e = pick (ltb e 32768) (pos 1) (negsuc 0)
+coefficientOf e = cond (ltb e 32768) (pos 1) (negsuc 0)
 
 -- the coefficient at index i: that of the next entry where it is for i, else 0
 abbrev pub coefficientAt : ℕ → List ℕ → ℤ
 coefficientAt i [] = pos 0
-coefficientAt i (e ∷ es) = pick (eqb (indexOf e) i) (coefficientOf e) (pos 0)
+coefficientAt i (e ∷ es) = cond (eqb (indexOf e) i) (coefficientOf e) (pos 0)
 
 -- the entry of a coefficient at index i that is not 0
 abbrev pub entryOf : ℕ → ℤ → ℕ
@@ -34,7 +33,7 @@ abbrev pub coefficientsFrom : ℕ → ℕ → List ℕ → List ℤ
 coefficientsFrom i zero es = []
 coefficientsFrom i (suc n) [] = pos 0 ∷ coefficientsFrom (suc i) n []
 coefficientsFrom i (suc n) (e ∷ es) =
-    pick (eqb (indexOf e) i) (coefficientOf e ∷ coefficientsFrom (suc i) n es) (pos 0 ∷ coefficientsFrom (suc i) n (e ∷ es))
+    cond (eqb (indexOf e) i) (coefficientOf e ∷ coefficientsFrom (suc i) n es) (pos 0 ∷ coefficientsFrom (suc i) n (e ∷ es))
 
 -- the challenge of N coefficients with these entries
 abbrev pub challengeOf : ℕ → List ℕ → List ℤ

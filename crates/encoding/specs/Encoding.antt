@@ -1,16 +1,15 @@
 -- Document 01, "Encodings": the three encodings, written and read. An encoding's first byte is its set, s below.
 -- Assumes nothing.
 use mathlib.Core.Path.{_≡_}
-use mathlib.Core.Bool.{Bool, _||_}
+use mathlib.Core.Bool.{Bool, _||_, cond}
 use mathlib.Core.List.{List, _∷_, _++_, map}
 use Prim.Native.Nat.{ℕ, _+_, _*_}
 use lib.Dec.{T, eqb}
 use lib.IntN.{ℤ, pos, negsuc}
 use lib.ListN.{length, drop}
-use Rattle.algebra.specs.Choice.{pick}
-use Rattle.algebra.specs.All.{all}
+use Rattle.algebra.specs.All.{all, areBelow}
 use Rattle.parameters.specs.declared.Params.{Params}
-use Rattle.encoding.specs.Bytes.{numbers, encoded, bits16, signed16, areBelow, areSigned16, increasing}
+use Rattle.encoding.specs.Bytes.{numbers, encoded, bits16, signed16, areSigned16, increasing}
 
 -- ---- a secret key: the set byte, then N bytes, hex 00, 01 or FF for -1
 
@@ -21,7 +20,7 @@ abbrev pub isKeyByte : ℕ → Bool
 isKeyByte x = eqb x 0 || (eqb x 1 || eqb x 255)
 
 abbrev pub keyCoefficient : ℕ → ℤ
-keyCoefficient x = pick (eqb x 255) (negsuc 0) (pos x)
+keyCoefficient x = cond (eqb x 255) (negsuc 0) (pos x)
 
 abbrev pub keyByte : ℤ → ℕ
 keyByte (pos n) = n
@@ -30,12 +29,19 @@ keyByte (negsuc n) = 255
 unfoldable pub secretKey : ℕ → List ℤ → List ℕ
 secretKey s f = s ∷ map keyByte f
 
--- what is read: the key's bytes are allowed, and the key
+-- what is read from the body, the bytes behind the set byte: they are allowed, and the key
+abbrev pub areKeyBytes : List ℕ → Bool
+areKeyBytes body = all isKeyByte body
+
+abbrev pub keyIn : List ℕ → List ℤ
+keyIn body = map keyCoefficient body
+
+-- the same of the whole encoding
 unfoldable pub isKey : List ℕ → Bool
-isKey xs = all isKeyByte (drop 1 xs)
+isKey xs = areKeyBytes (drop 1 xs)
 
 unfoldable pub keyOf : List ℕ → List ℤ
-keyOf xs = map keyCoefficient (drop 1 xs)
+keyOf xs = keyIn (drop 1 xs)
 
 -- ---- a public key: the set byte, t exponents of two bytes, t evaluations of three bytes
 
@@ -60,12 +66,19 @@ pub record PublicKeyRange (p : Params) (exponents evaluations : List ℕ) : Type
   pub evaluations-length : length evaluations ≡ p .t
   pub evaluations-below : T (areBelow 16777216 evaluations)
 
--- what is read: the exponents and the evaluations
+-- what is read from the body: the exponents and the evaluations
+abbrev pub exponentsIn : Params → List ℕ → List ℕ
+exponentsIn p body = numbers 2 (p .t) body
+
+abbrev pub evaluationsIn : Params → List ℕ → List ℕ
+evaluationsIn p body = numbers 3 (p .t) (drop (2 * p .t) body)
+
+-- the same of the whole encoding
 unfoldable pub exponentsOf : Params → List ℕ → List ℕ
-exponentsOf p xs = numbers 2 (p .t) (drop 1 xs)
+exponentsOf p xs = exponentsIn p (drop 1 xs)
 
 unfoldable pub evaluationsOf : Params → List ℕ → List ℕ
-evaluationsOf p xs = numbers 3 (p .t) (drop (1 + 2 * p .t) xs)
+evaluationsOf p xs = evaluationsIn p (drop 1 xs)
 
 -- ---- a signature: the set byte, b challenge entries of two bytes, N coefficients of two bytes
 
@@ -82,9 +95,16 @@ pub record SignatureRange (p : Params) (entries : List ℕ) (z : List ℤ) : Typ
   pub z-length : length z ≡ p .n
   pub z-signed : T (areSigned16 z)
 
--- what is read: the challenge entries and the point
+-- what is read from the body: the challenge entries and z
+abbrev pub entriesIn : Params → List ℕ → List ℕ
+entriesIn p body = numbers 2 (p .b) body
+
+abbrev pub zIn : Params → List ℕ → List ℤ
+zIn p body = map signed16 (numbers 2 (p .n) (drop (2 * p .b) body))
+
+-- the same of the whole encoding
 unfoldable pub entriesRead : Params → List ℕ → List ℕ
-entriesRead p xs = numbers 2 (p .b) (drop 1 xs)
+entriesRead p xs = entriesIn p (drop 1 xs)
 
 unfoldable pub zRead : Params → List ℕ → List ℤ
-zRead p xs = map signed16 (numbers 2 (p .n) (drop (1 + 2 * p .b) xs))
+zRead p xs = zIn p (drop 1 xs)

@@ -1,8 +1,5 @@
-// The encodings of document 01: numbers as bytes, secret keys, points and evaluations of public keys, challenges as entries.
-pub mod challenge_entries;
-mod increasing;
-pub mod layout;
+// The encodings of document 01: numbers as bytes, secret keys, public keys and signatures, each with its size by name.
 pub mod numbers;
 pub mod public_key;
 pub mod secret_key;
-pub mod signed_numbers;
+pub mod signature;

@@ -1,7 +1,7 @@
 // Lists of plays of one session, each with a file and a row buffer of its own.
 ghost use Prim.Native.Nat.{_+_, _*_, _≤_};
 ghost use lib.ListN.{length};
-use session::Answer;
+use session::PlayAnswer;
 use session::Played;
 use session::Session;
 use session::open;
@@ -16,11 +16,11 @@ fn at_most(number: u32, most: usize) -> usize
 }
 
 // The number that a row prints, or 256 for a row buffer at fault and 257 for a session that has ended.
-fn number_of(answer: Answer) -> u32 {
+fn number_of(answer: PlayAnswer) -> u32 {
     match answer {
-        Answer::Row(number) => number,
-        Answer::Fault => 256,
-        Answer::Ended => 257,
+        PlayAnswer::Row(number) => number,
+        PlayAnswer::Fault => 256,
+        PlayAnswer::Ended => 257,
     }
 }
 
@@ -44,13 +44,14 @@ fn play_at(session: Session, files: &[u8], plays: &[u32], at: usize, memory: &mu
 pub extern "C" fn harness_plays(files: &[u8], plays: &[u32], memory: &mut [u8], answers: &mut [u32])
     requires { ⌜ 4 * length (now answers) ≤ length (now plays) ⌝ }
 {
-    let mut session = open();
+    let mut played = Played {
+        session: open(),
+        answer: PlayAnswer::Fault,
+    };
     let mut i: usize = 0;
     while i < answers.len() {
-        let played = play_at(session, files, plays, 4 * i, memory);
-        let next = played.session;
+        played = play_at(played.session, files, plays, 4 * i, memory);
         let answer = played.answer;
-        session = next;
         answers[i] = number_of(answer);
         i += 1;
     }

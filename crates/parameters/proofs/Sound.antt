@@ -1,51 +1,68 @@
--- Each of the five sets is sound, and the code has room for it: one computed test of each over the whole table of sets.
+-- Each of the five sets is sound, and the code has room for it; the sizes of any byte's numbers are within the limits. One computed test of each over the
+-- whole table of sets.
 -- Assumes nothing.
-use mathlib.Core.Bool.{_&&_}
-use Prim.Native.Nat.{ℕ, _^_, _%_, _<_}
-use lib.Dec.{T, ltb, leb, eqb, ltb→lt, leb→le, eqb→eq}
+use mathlib.Core.Path.{_≡_, sym, subst}
+use mathlib.Core.Bool.{Bool, true}
+use mathlib.Core.List.{List}
+use mathlib.Core.Logic.{⊎-elim}
+use Prim.Native.Nat.{ℕ, _<_, _≤_}
+use lib.Dec.{T, ltb→lt, leb→le, eqb→eq}
+use lib.ListN.{length, getD, List·getD-eq-default}
 use Rattle.algebra.specs.All.{all}
 use Rattle.algebra.proofs.All.{all-at}
-use Rattle.algebra.proofs.Test.{and-left, and-right}
+use Rattle.algebra.proofs.Test.{lt-or-le}
 use Rattle.parameters.specs.declared.Params.{Params}
 use Rattle.parameters.specs.Sets.{row, sets, setOf}
-use Rattle.parameters.specs.Sound.{Sound, isSound, Fitting, isFitting}
+use Rattle.parameters.specs.Sound.{hold, Sound, soundTests, Fitting, fittingTests, Limited, limitedTests}
 
-sound-of-test : (p : Params) → T (isSound p) → Sound p
-unfolding isSound
-sound-of-test p t =
-    let u = and-right (ltb 1 (p .q)) (eqb (p .g ^ p .n % p .q) 1 && leb (p .b) (p .k)) t in
-    record {
-      modulus = ltb→lt 1 (p .q) (and-left (ltb 1 (p .q)) (eqb (p .g ^ p .n % p .q) 1 && leb (p .b) (p .k)) t);
-      cyclic = eqb→eq (p .g ^ p .n % p .q) 1 (and-left (eqb (p .g ^ p .n % p .q) 1) (leb (p .b) (p .k)) u);
-      room = leb→le (p .b) (p .k) (and-right (eqb (p .g ^ p .n % p .q) 1) (leb (p .b) (p .k)) u);
-    }
+-- of tests that all hold, each
+each : (ts : List Bool) → T (hold ts) → (k : ℕ) → k < length ts → T (getD ts k true)
+each ts t = all-at (λ (b : Bool). b) ts true t
 
-fitting-of-test : (p : Params) → T (isFitting p) → Fitting p
-unfolding isFitting
-fitting-of-test p t =
-    let u = and-right (leb (p .n) 1153) (ltb (p .q) (2 ^ 20) && (ltb (p .k) (2 ^ 15) && (leb (p .b) 64 && ltb (p .t) (p .n)))) t in
-    let v = and-right (ltb (p .q) (2 ^ 20)) (ltb (p .k) (2 ^ 15) && (leb (p .b) 64 && ltb (p .t) (p .n))) u in
-    let w = and-right (ltb (p .k) (2 ^ 15)) (leb (p .b) 64 && ltb (p .t) (p .n)) v in
-    record {
-      size = leb→le (p .n) 1153 (and-left (leb (p .n) 1153) _ t);
-      modulus = ltb→lt (p .q) (2 ^ 20) (and-left (ltb (p .q) (2 ^ 20)) _ u);
-      mask = ltb→lt (p .k) (2 ^ 15) (and-left (ltb (p .k) (2 ^ 15)) _ v);
-      weight = leb→le (p .b) 64 (and-left (leb (p .b) 64) _ w);
-      exponents = ltb→lt (p .t) (p .n) (and-right (leb (p .b) 64) _ w);
-    }
+sound-of-test : (p : Params) → T (hold (soundTests p)) → Sound p
+sound-of-test p t = record {
+  modulus = ltb→lt 1 (p .q) (each (soundTests p) t 0 (ltb→lt 0 3 tt));
+  cyclic = eqb→eq _ 1 (each (soundTests p) t 1 (ltb→lt 1 3 tt));
+  room = leb→le (p .b) (p .k) (each (soundTests p) t 2 (ltb→lt 2 3 tt));
+}
 
-sets-sound : T (all isSound sets)
-unfolding isSound sets
-sets-sound = tt
+fitting-of-test : (p : Params) → T (hold (fittingTests p)) → Fitting p
+fitting-of-test p t = record {
+  size = leb→le (p .n) _ (each (fittingTests p) t 0 (ltb→lt 0 5 tt));
+  modulus = ltb→lt (p .q) _ (each (fittingTests p) t 1 (ltb→lt 1 5 tt));
+  mask = ltb→lt (p .k) _ (each (fittingTests p) t 2 (ltb→lt 2 5 tt));
+  weight = leb→le (p .b) _ (each (fittingTests p) t 3 (ltb→lt 3 5 tt));
+  exponents = ltb→lt (p .t) (p .n) (each (fittingTests p) t 4 (ltb→lt 4 5 tt));
+}
 
-sets-fitting : T (all isFitting sets)
-unfolding isFitting sets
-sets-fitting = tt
+limited-of-test : (p : Params) → T (hold (limitedTests p)) → Limited p
+limited-of-test p t = record {
+  size = leb→le (p .n) _ (each (limitedTests p) t 0 (ltb→lt 0 3 tt));
+  weight = leb→le (p .b) _ (each (limitedTests p) t 1 (ltb→lt 1 3 tt));
+  count = leb→le (p .t) _ (each (limitedTests p) t 2 (ltb→lt 2 3 tt));
+}
+
+-- what tests say of each of the five
+in-table : (tests : Params → List Bool) → T (all (λ (p : Params). hold (tests p)) sets) → (s : ℕ) → s < 5 → T (hold (tests (setOf s)))
+unfolding setOf sets
+in-table tests t s h = all-at (λ (p : Params). hold (tests p)) sets (row 0 0 0 0 0 0) t s h
+
+-- a byte that is no set
+pub no-set : (s : ℕ) → 5 ≤ s → setOf s ≡ row 0 0 0 0 0 0
+unfolding setOf sets
+no-set s h = List·getD-eq-default sets (row 0 0 0 0 0 0) h
 
 pub set-sound : (s : ℕ) → s < 5 → Sound (setOf s)
-unfolding setOf sets
-set-sound s h = sound-of-test (setOf s) (all-at isSound sets (row 0 0 0 0 0 0) sets-sound s h)
+unfolding sets
+set-sound s h = sound-of-test (setOf s) (in-table soundTests tt s h)
 
 pub set-fitting : (s : ℕ) → s < 5 → Fitting (setOf s)
-unfolding setOf sets
-set-fitting s h = fitting-of-test (setOf s) (all-at isFitting sets (row 0 0 0 0 0 0) sets-fitting s h)
+unfolding sets
+set-fitting s h = fitting-of-test (setOf s) (in-table fittingTests tt s h)
+
+pub set-limited : (s : ℕ) → Limited (setOf s)
+unfolding sets
+set-limited s =
+    ⊎-elim (λ (h : s < 5). limited-of-test (setOf s) (in-table limitedTests tt s h))
+    (λ (h : 5 ≤ s). subst Limited (sym (no-set s h)) (limited-of-test (row 0 0 0 0 0 0) tt))
+    (lt-or-le s 5)

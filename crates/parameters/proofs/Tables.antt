@@ -9,7 +9,7 @@ use Rattle.algebra.specs.Powers.{isPowerTable}
 use Rattle.algebra.proofs.Powers.{powers-of-test}
 use Rattle.parameters.specs.declared.Params.{Params}
 use Rattle.parameters.specs.Sets.{setOf}
-use Rattle.parameters.specs.Sound.{PowersOf}
+use Rattle.parameters.specs.Asks.{PowersOf}
 
 table-of : (p : Params) (t r : List ℕ) → length t ≡ p .n → 1 < p .q → T (isPowerTable (p .g) (p .q) t) → take (length t) r ≡ t → PowersOf p (take (p .n) r)
 table-of p t r size modulus rule e =

@@ -2,7 +2,7 @@
 -- fail, and writes that mask's signature. It refuses with 9, no other refusal standing, exactly when no mask passes.
 -- Assumes nothing.
 use mathlib.Core.Path.{_≡_, refl, sym, ap, _∙_}
-use mathlib.Core.Bool.{Bool, true, false, not}
+use mathlib.Core.Bool.{Bool, true, false, not, cond}
 use mathlib.Core.List.{List, []}
 use mathlib.Core.Logic.{_↔_, Iff·rfl, Iff·trans, Iff·and}
 use mathlib.Core.Option.{Option, none, some, Option·none-ne-some}
@@ -11,35 +11,41 @@ use native.Mathlib.Omega.{arith}
 use lib.Dec.{T, ltb, eqb, ltb→lt, lit<}
 use lib.IntN.{ℤ}
 use lib.ListN.{length, getD}
-use Rattle.algebra.specs.Choice.{pick}
 use Rattle.algebra.specs.Integer.{within}
 use Rattle.parameters.specs.declared.Params.{Params}
+use Rattle.parameters.specs.Sets.{isSet}
 use Rattle.polynomial.specs.Evaluation.{evaluations}
 use Rattle.challenge.specs.Draw.{drawChallenge}
-use Rattle.encoding.specs.Encoding.{secretKeySize, signatureSize, areExponents, isKey, keyOf}
+use Rattle.encoding.specs.Encoding.{areExponents, isKey, keyOf}
 use Rattle.scheme.specs.Scheme.{Drawer, Signed, attempt}
 use Rattle.scheme.proofs.FirstPassing.{first-passing, none-passing, passed-over}
-use Rattle.signing.specs.Signer.{offeredCount, masksOf, maskAt, signedBy}
-use Rattle.signing.proofs.OfferedMasks.{masks-count, mask-at}
 use Rattle.refusal.specs.declared.Signing.the-variants as answer
-use Rattle.refusal.specs.Answer.{setIn}
-use Rattle.signing.specs.Sign.{areMasks, signRefusalIn, signedAnswer, signAnswerIn, signWrittenIn, signAnswer, signWritten}
-use Rattle.passign.specs.FirstPassing.{attemptAt, failuresBefore, NonePasses, FirstSigns, SignUnrefused}
+use Rattle.refusal.specs.Answer.{setByte, setIn, isLong}
 use Rattle.refusal.proofs.Apart.{refused-same, refused-not-signed}
 use Rattle.refusal.proofs.Refusal.{chosen, equal-iff}
-use Rattle.signing.proofs.AcceptedSigning.{SignedAs, signed-answer, signed-bytes, accepted-signing, signing-of, first-of, offered}
-use Rattle.passign.proofs.Entry.{sign-entry, written-entry}
+use Rattle.signing.specs.Signer.{offeredCount, masksOf, maskAt, signedBy, signedBytes}
+use Rattle.signing.specs.Sign.{signLengths, signRefusalIn, signRefusal, signedAnswer, signingAfter, writtenAfter}
+use Rattle.signing.specs.Sign.{signAnswerIn, signWrittenIn, signAnswer, signWritten}
+use Rattle.signing.proofs.OfferedMasks.{masks-count, mask-at}
+use Rattle.passign.specs.FirstPassing.{attemptAt, NonePassing, FirstSigning}
 
--- no test of `sign` answers 9
-low : (t : Bool) (m : ℕ) {x : ℕ} → T (ltb m 9) → x < 9 → pick t m x < 9
+-- ---- no test of `sign` answers 9
+
+low : (t : Bool) (m : ℕ) {x : ℕ} → T (ltb m 9) → x < 9 → cond t m x < 9
 low true m h l = ltb→lt m 9 h
 low false m h l = l
 
 refusal-low : (p : Params) (key exponents : List ℕ) (masks : List ℤ) (room : ℕ) → signRefusalIn p key exponents masks room < 9
 unfolding signRefusalIn
 refusal-low p key exponents masks room =
-    low (not (eqb (length key) (secretKeySize p))) 1 tt (low (not (eqb (length exponents) (p .t))) 1 tt (low (not (areMasks p masks)) 1 tt
-    (low (not (eqb room (signatureSize p))) 1 tt (low (not (areExponents p exponents)) 4 tt (low (not (isKey key)) 5 tt (low (not (within (p .k) masks)) 6 tt (lit< tt)))))))
+    low (not (signLengths p (length key) (length exponents) (length masks) room)) 1 tt
+    (low (not (areExponents p exponents)) 4 tt (low (not (isKey key)) 5 tt (low (not (within (p .k) masks)) 6 tt (lit< tt))))
+
+entry-low : (key exponents : List ℕ) (masks : List ℤ) (message out : List ℕ) → signRefusal key exponents masks message out < 9
+unfolding signRefusal
+entry-low key exponents masks message out =
+    low (isLong message) 1 tt
+    (low (eqb (length key) 0) 1 tt (low (not (isSet (setByte key))) 2 tt (refusal-low (setIn key) key exponents masks (length out))))
 
 -- the answer is 9 where there is no signing
 answer-none : (o : Option Signed) → (signedAnswer o ≡ answer.Refused 9) ↔ (o ≡ none)
@@ -47,11 +53,15 @@ answer-none none = (λ e. refl, λ e. refl)
 answer-none (some r) = (λ e. absurd (refused-not-signed (sym e)), λ e. absurd (Option·none-ne-some r (sym e)))
 
 module _ (draw : Drawer) (p : Params) (key exponents : List ℕ) (masks : List ℤ) (message : List ℕ) where
+  abbrev signed : Option Signed
+  signed = signedBy draw p (keyOf key) exponents masks message
+
   -- mask number j, from the list of masks
-  attempt-at : (j : ℕ) → j < offeredCount p masks → attempt draw p exponents message (keyOf key) (getD (masksOf p masks) j []) ≡ attemptAt draw p key exponents masks message j
+  attempt-at : (j : ℕ) → j < offeredCount p masks
+      → attempt draw p exponents message (keyOf key) (getD (masksOf p masks) j []) ≡ attemptAt draw p key exponents masks message j
   attempt-at j h = ap (attempt draw p exponents message (keyOf key)) (mask-at p masks j h)
 
-  none-iff : (signedBy draw p (keyOf key) exponents masks message ≡ none) ↔ NonePasses draw p key exponents masks message
+  none-iff : (signed ≡ none) ↔ NonePassing draw p key exponents masks message
   unfolding signedBy
   none-iff =
       let n = none-passing draw p exponents message (keyOf key) (masksOf p masks) in
@@ -60,78 +70,77 @@ module _ (draw : Drawer) (p : Params) (key exponents : List ℕ) (masks : List �
         λ a. n .1 (λ j h. let l : j < offeredCount p masks = omega (arith, count) in attempt-at j l ∙ a j l),
       )
 
+  first-in : {written : List ℕ} {i : ℕ} (w : FirstSigning draw p key exponents masks message written i)
+      → signed ≡ some (record { passedOver = i; commitment = evaluations p (maskAt p masks i) exponents; signature = w .signature })
+  unfolding signedBy
+  first-in {i = i} w =
+      let m = w .first in
+      first-passing draw p exponents message (keyOf key) (masksOf p masks) _ .1 (record {
+        offered = omega (arith, m .offered, masks-count p masks);
+        passes = attempt-at i (m .offered) ∙ m .passes;
+        commits = ap (λ (y : List ℤ). evaluations p y exponents) (mask-at p masks i (m .offered));
+        earlier = λ j h. attempt-at j (omega (arith, m .offered)) ∙ m .earlier j h;
+      })
+
   module _ (out : List ℕ) where
-    first-out : {r : Signed} {i : ℕ} → SignedAs draw p key exponents masks message out r i → FirstSigns draw p key exponents masks message (signWrittenIn draw p key exponents masks message out) i
-    first-out {r} {i} a =
-        let w = first-of a in
-        let l = offered a in
-        record {
+    first-out : (o : Option Signed) {i : ℕ} → signed ≡ o → signedAnswer o ≡ answer.Signed i
+        → FirstSigning draw p key exponents masks message (signedBytes (setByte key) o out) i
+    unfolding signedBy
+    first-out none e a = absurd (refused-not-signed a)
+    first-out (some r) {i} e a =
+        let place : r .passedOver ≡ i = cc in
+        let w = first-passing draw p exponents message (keyOf key) (masksOf p masks) r .0 e in
+        let l : r .passedOver < offeredCount p masks = omega (arith, w .offered, masks-count p masks) in
+        rw (← place) (record {
           signature = r .signature;
           first = record {
             offered = l;
-            passes = sym (attempt-at i l) ∙ ap (λ (j : ℕ). attempt draw p exponents message (keyOf key) (getD (masksOf p masks) j [])) (sym (a .place)) ∙ w .passes;
-            earlier = λ j h. sym (attempt-at j (omega arith)) ∙ w .earlier j (omega (arith, a .place));
+            passes = sym (attempt-at (r .passedOver) l) ∙ w .passes;
+            earlier = λ j h. sym (attempt-at j (omega arith)) ∙ w .earlier j h;
           };
-          counts = ap (failuresBefore draw p key exponents masks message) (sym (a .place)) ∙ passed-over draw p exponents message (keyOf key) (masksOf p masks) r (signing-of a) ∙ a .place;
-          bytes = signed-bytes a;
-        }
-
-    first-in : {i : ℕ} → signRefusalIn p key exponents masks (length out) ≡ 0 → {written : List ℕ} → FirstSigns draw p key exponents masks message written i
-        → signAnswerIn draw p key exponents masks message out ≡ answer.Signed i
-    unfolding signedBy
-    first-in {i} allowed w =
-        let m = w .first in
-        let r : Signed = record { passedOver = i; commitment = evaluations p (maskAt p masks i) exponents; signature = w .signature } in
-        signed-answer {r = r} (record {
-          allowed = allowed;
-          signs = first-passing draw p exponents message (keyOf key) (masksOf p masks) r .1 (record {
-            offered = omega (arith, m .offered, masks-count p masks);
-            passes = attempt-at i (m .offered) ∙ m .passes;
-            commits = ap (λ (y : List ℤ). evaluations p y exponents) (mask-at p masks i (m .offered));
-            earlier = λ j h. attempt-at j (omega (arith, m .offered)) ∙ m .earlier j h;
-          });
-          place = refl;
+          counts = passed-over draw p exponents message (keyOf key) (masksOf p masks) r e;
+          bytes = refl;
         })
+
+    -- whatever number refuses
+    module _ (refusal : ℕ) where
+      first-after : (i : ℕ) → (signingAfter refusal signed ≡ answer.Signed i)
+          ↔ ((refusal ≡ 0) × FirstSigning draw p key exponents masks message (writtenAfter refusal (setByte key) signed out) i)
+      first-after i = (
+        λ e.
+            let h = chosen (eqb refusal 0) refused-not-signed Iff·rfl .0 e in
+            (equal-iff .0 (h .0), rw (h .0) (first-out signed refl (h .1))),
+        λ h. rw (h .0) (ap signedAnswer (first-in (h .1))),
+      )
+
+      none-after : refusal < 9 → (signingAfter refusal signed ≡ answer.Refused 9) ↔ ((refusal ≡ 0) × NonePassing draw p key exponents masks message)
+      none-after low =
+          Iff·trans (chosen (eqb refusal 0) (λ e. omega (arith, low, refused-same e)) (Iff·trans (answer-none signed) none-iff)) (Iff·and equal-iff Iff·rfl)
 
     -- a signing in any set, with any way to draw: it is accepted by the first mask that passes
     pub first-signs : (i : ℕ) → (signAnswerIn draw p key exponents masks message out ≡ answer.Signed i)
-        ↔ ((signRefusalIn p key exponents masks (length out) ≡ 0) × FirstSigns draw p key exponents masks message (signWrittenIn draw p key exponents masks message out) i)
-    first-signs i = (
-      λ e. let w = accepted-signing draw p key exponents masks message out e in (w .1 .allowed, first-out (w .1)),
-      λ h. first-in (h .0) (h .1),
-    )
+        ↔ ((signRefusalIn p key exponents masks (length out) ≡ 0)
+        × FirstSigning draw p key exponents masks message (signWrittenIn draw p key exponents masks message out) i)
+    unfolding signAnswerIn signWrittenIn
+    first-signs = first-after (signRefusalIn p key exponents masks (length out))
 
     -- and refused with 9 where none passes
-    pub none-signs : (signAnswerIn draw p key exponents masks message out ≡ answer.Refused 9) ↔ ((signRefusalIn p key exponents masks (length out) ≡ 0) × NonePasses draw p key exponents masks message)
+    pub none-signs : (signAnswerIn draw p key exponents masks message out ≡ answer.Refused 9)
+        ↔ ((signRefusalIn p key exponents masks (length out) ≡ 0) × NonePassing draw p key exponents masks message)
     unfolding signAnswerIn
-    none-signs =
-        Iff·trans
-        (chosen (eqb (signRefusalIn p key exponents masks (length out)) 0) (λ e. omega (arith, refusal-low p key exponents masks (length out), refused-same e))
-        (Iff·trans (answer-none (signedBy draw p (keyOf key) exponents masks message)) none-iff))
-        (Iff·and equal-iff Iff·rfl)
+    none-signs = none-after (signRefusalIn p key exponents masks (length out)) (refusal-low p key exponents masks (length out))
 
 -- the entry, in the set of the key's first byte
 module _ (key exponents : List ℕ) (masks : List ℤ) (message out : List ℕ) where
   pub entry-first-signs : (i : ℕ) → (signAnswer key exponents masks message out ≡ answer.Signed i)
-      ↔ (SignUnrefused key exponents masks message out × FirstSigns drawChallenge (setIn key) key exponents masks message (signWritten key exponents masks message out) i)
-  entry-first-signs i =
-      let entry = sign-entry refused-not-signed refused-not-signed key exponents masks message out in
-      let signs = first-signs drawChallenge (setIn key) key exponents masks message out i in (
-        λ e.
-            let h = entry .0 e in
-            let w = signs .0 (h .1) in
-            (record { known = h .0; allowed = w .0 }, rw (written-entry key exponents masks message out (h .0)) (w .1)),
-        λ h. entry .1 (h .0 .known, signs .1 (h .0 .allowed, rw (written-entry key exponents masks message out (h .0 .known)) at (h .1))),
-      )
+      ↔ ((signRefusal key exponents masks message out ≡ 0)
+      × FirstSigning drawChallenge (setIn key) key exponents masks message (signWritten key exponents masks message out) i)
+  unfolding signAnswer signWritten
+  entry-first-signs = first-after drawChallenge (setIn key) key exponents masks message out (signRefusal key exponents masks message out)
 
-  pub entry-none-signs : (signAnswer key exponents masks message out ≡ answer.Refused 9) ↔ (SignUnrefused key exponents masks message out × NonePasses drawChallenge (setIn key) key exponents masks message)
+  pub entry-none-signs : (signAnswer key exponents masks message out ≡ answer.Refused 9)
+      ↔ ((signRefusal key exponents masks message out ≡ 0) × NonePassing drawChallenge (setIn key) key exponents masks message)
+  unfolding signAnswer
   entry-none-signs =
-      let entry = sign-entry {y = answer.Refused 9} (λ e. let n : _≡_ {A = ℕ} 1 9 = refused-same e in omega arith)
-      (λ e. let n : _≡_ {A = ℕ} 2 9 = refused-same e in omega arith) key exponents masks message out in
-      let signs = none-signs drawChallenge (setIn key) key exponents masks message out in (
-        λ e.
-            let h = entry .0 e in
-            let w = signs .0 (h .1) in
-            (record { known = h .0; allowed = w .0 }, w .1),
-        λ h. entry .1 (h .0 .known, signs .1 (h .0 .allowed, h .1)),
-      )
+      none-after drawChallenge (setIn key) key exponents masks message out (signRefusal key exponents masks message out)
+      (entry-low key exponents masks message out)

@@ -6,10 +6,7 @@ pub mod Range
 pub mod Hiding
 pub mod HidingOfMany
 pub mod FiveSets
-pub mod EncodableDraws
-pub mod ExactlyOne
 pub mod Entry
-pub mod Encoded
 pub mod AcceptedBytes
 pub mod OtherMask
-pub mod Follows
+pub mod AsDefined

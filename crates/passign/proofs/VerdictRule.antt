@@ -3,7 +3,7 @@
 -- Assumes nothing.
 use mathlib.Core.Path.{_≡_}
 use mathlib.Core.List.{List}
-use mathlib.Core.Logic.{_↔_, Iff·rfl, Iff·trans, Iff·and}
+use mathlib.Core.Logic.{_↔_, Iff·trans, Iff·and}
 use Prim.Native.Nat.{ℕ}
 use lib.Dec.{eqb}
 use Rattle.parameters.specs.declared.Params.{Params}
@@ -13,44 +13,46 @@ use Rattle.scheme.specs.Scheme.{Drawer}
 use Rattle.scheme.proofs.Verdict.{verdict-true, verdict-false}
 use Rattle.refusal.specs.declared.Verdict.the-variants as answer
 use Rattle.refusal.specs.Answer.{setIn}
-use Rattle.checking.specs.Check.{checkRefusalIn, signatureRead, checkVerdict, checkAnswerIn, checkAnswer}
-use Rattle.passign.specs.Known.{KnownBoth}
-use Rattle.passign.specs.VerdictRule.{Rule, CheckUnrefused}
 use Rattle.refusal.proofs.Apart.{refused-not-yes, refused-not-no, yes-not-no, no-not-yes}
 use Rattle.refusal.proofs.Refusal.{passed, chosen, end, equal-iff}
-use Rattle.passign.proofs.Entry.{check-entry}
+use Rattle.checking.specs.Check.{checkRefusalIn, checkRefusal, signatureRead, checkVerdict, verdictAfter, checkAnswerIn, checkAnswer}
+use Rattle.passign.specs.VerdictRule.{Rule}
 
 module _ (draw : Drawer) (p : Params) (key message signature : List ℕ) where
+  -- whatever number refuses
+  module _ (refusal : ℕ) where
+    yes-after : (verdictAfter refusal (checkVerdict draw p key message signature) ≡ answer.Yes) ↔ ((refusal ≡ 0) × Rule draw p key message signature)
+    unfolding checkVerdict
+    yes-after =
+        let rule = verdict-true draw p (exponentsOf p key) message (evaluationsOf p key) (signatureRead p signature) in
+        Iff·trans (chosen (eqb refusal 0) refused-not-yes (chosen (checkVerdict draw p key message signature) no-not-yes end))
+        (Iff·and equal-iff (λ h. rule .0 (h .0), λ v. (rule .1 v, tt)))
+
+    no-after : (verdictAfter refusal (checkVerdict draw p key message signature) ≡ answer.No) ↔ ((refusal ≡ 0) × (¬ Rule draw p key message signature))
+    unfolding checkVerdict
+    no-after =
+        let rule = verdict-false draw p (exponentsOf p key) message (evaluationsOf p key) (signatureRead p signature) in
+        Iff·trans (chosen (eqb refusal 0) refused-not-no (passed (checkVerdict draw p key message signature) yes-not-no end))
+        (Iff·and equal-iff (λ h. rule .0 (h .0), λ v. (rule .1 v, tt)))
+
   -- in any set, with any way to draw
   pub verdict-yes : (checkAnswerIn draw p key message signature ≡ answer.Yes) ↔ ((checkRefusalIn p key signature ≡ 0) × Rule draw p key message signature)
-  unfolding checkAnswerIn checkVerdict
-  verdict-yes =
-      let rule = verdict-true draw p (exponentsOf p key) message (evaluationsOf p key) (signatureRead p signature) in
-      Iff·trans
-      (chosen (eqb (checkRefusalIn p key signature) 0) refused-not-yes
-      (chosen (checkVerdict draw p key message signature) no-not-yes end))
-      (Iff·and equal-iff (λ h. rule .0 (h .0), λ v. (rule .1 v, tt)))
+  unfolding checkAnswerIn
+  verdict-yes = yes-after (checkRefusalIn p key signature)
 
-  pub verdict-no : (checkAnswerIn draw p key message signature ≡ answer.No) ↔ ((checkRefusalIn p key signature ≡ 0) × (¬ Rule draw p key message signature))
-  unfolding checkAnswerIn checkVerdict
-  verdict-no =
-      let rule = verdict-false draw p (exponentsOf p key) message (evaluationsOf p key) (signatureRead p signature) in
-      Iff·trans
-      (chosen (eqb (checkRefusalIn p key signature) 0) refused-not-no
-      (passed (checkVerdict draw p key message signature) yes-not-no end))
-      (Iff·and equal-iff (λ h. rule .0 (h .0), λ v. (rule .1 v, tt)))
+  pub verdict-no : (checkAnswerIn draw p key message signature ≡ answer.No)
+      ↔ ((checkRefusalIn p key signature ≡ 0) × (¬ Rule draw p key message signature))
+  unfolding checkAnswerIn
+  verdict-no = no-after (checkRefusalIn p key signature)
 
 -- the entry, in the set of the key's first byte
 module _ (key message signature : List ℕ) where
-  gathered : {P : Type 0} → (KnownBoth key message signature × ((checkRefusalIn (setIn key) key signature ≡ 0) × P)) ↔ (CheckUnrefused key message signature × P)
-  gathered = (λ h. (record { known = h .0; allowed = h .1 .0 }, h .1 .1), λ h. (h .0 .known, (h .0 .allowed, h .1)))
+  pub entry-verdict-yes : (checkAnswer key message signature ≡ answer.Yes)
+      ↔ ((checkRefusal key message signature ≡ 0) × Rule drawChallenge (setIn key) key message signature)
+  unfolding checkAnswer
+  entry-verdict-yes = yes-after drawChallenge (setIn key) key message signature (checkRefusal key message signature)
 
-  pub entry-verdict-yes : (checkAnswer key message signature ≡ answer.Yes) ↔ (CheckUnrefused key message signature × Rule drawChallenge (setIn key) key message signature)
-  entry-verdict-yes =
-      Iff·trans (check-entry refused-not-yes refused-not-yes key message signature)
-      (Iff·trans (Iff·and Iff·rfl (verdict-yes drawChallenge (setIn key) key message signature)) gathered)
-
-  pub entry-verdict-no : (checkAnswer key message signature ≡ answer.No) ↔ (CheckUnrefused key message signature × (¬ Rule drawChallenge (setIn key) key message signature))
-  entry-verdict-no =
-      Iff·trans (check-entry refused-not-no refused-not-no key message signature)
-      (Iff·trans (Iff·and Iff·rfl (verdict-no drawChallenge (setIn key) key message signature)) gathered)
+  pub entry-verdict-no : (checkAnswer key message signature ≡ answer.No)
+      ↔ ((checkRefusal key message signature ≡ 0) × (¬ Rule drawChallenge (setIn key) key message signature))
+  unfolding checkAnswer
+  entry-verdict-no = no-after drawChallenge (setIn key) key message signature (checkRefusal key message signature)

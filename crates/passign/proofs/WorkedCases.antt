@@ -13,5 +13,6 @@ use Rattle.values.specs.Draw.{drawRefusal}
 use Rattle.passign.specs.WorkedCases.{cases, holds}
 
 pub worked-cases : T (all holds cases)
-unfolding holds cases drawRefusal setOf sets evaluations evaluation draw kept withValue valueAt signAt placed signatureOf signatureBytes encoded bigEndian flatten
+unfolding holds cases drawRefusal setOf sets evaluations evaluation draw kept withValue valueAt signAt placed
+    signatureOf signatureBytes encoded bigEndian flatten
 worked-cases = tt

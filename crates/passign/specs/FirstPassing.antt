@@ -6,15 +6,13 @@ use mathlib.Core.List.{List}
 use mathlib.Core.Option.{Option, none, some}
 use Prim.Native.Nat.{ℕ, _<_}
 use lib.IntN.{ℤ}
-use lib.ListN.{length, take}
+use lib.ListN.{take}
 use Rattle.parameters.specs.declared.Params.{Params}
 use Rattle.encoding.specs.Encoding.{keyOf}
 use Rattle.scheme.specs.Scheme.{Drawer, Signature, attempt}
 use Rattle.scheme.specs.FirstPassing.{failures}
 use Rattle.signing.specs.Signer.{offeredCount, masksOf, maskAt, signatureOf}
-use Rattle.refusal.specs.Answer.{setByte, setIn}
-use Rattle.signing.specs.Sign.{signRefusalIn}
-use Rattle.passign.specs.Known.{Known}
+use Rattle.refusal.specs.Answer.{setByte}
 
 module _ (draw : Drawer) (p : Params) (key exponents : List ℕ) (masks : List ℤ) (message : List ℕ) where
   -- what mask number i gives with the key
@@ -32,18 +30,13 @@ module _ (draw : Drawer) (p : Params) (key exponents : List ℕ) (masks : List �
     pub earlier : (j : ℕ) → j < i → attemptAt j ≡ none
 
   -- no mask that is offered passes
-  abbrev pub NonePasses : Type 0
-  NonePasses = (j : ℕ) → j < offeredCount p masks → attemptAt j ≡ none
+  abbrev pub NonePassing : Type 0
+  NonePassing = (j : ℕ) → j < offeredCount p masks → attemptAt j ≡ none
 
   -- mask number i signs with these bytes: it is the first that passes, the number of masks before it is the count of those that fail, and the
   -- bytes are its signature's
-  pub record FirstSigns (written : List ℕ) (i : ℕ) : Type 0 where
+  pub record FirstSigning (written : List ℕ) (i : ℕ) : Type 0 where
     pub signature : Signature
     pub first : FirstMask signature i
     pub counts : failuresBefore i ≡ i
     pub bytes : written ≡ signatureOf (setByte key) signature
-
--- nothing refuses a call of the entry: the set and the set's own tests
-pub record SignUnrefused (key exponents : List ℕ) (masks : List ℤ) (message out : List ℕ) : Type 0 where
-  pub known : Known key message
-  pub allowed : signRefusalIn (setIn key) key exponents masks (length out) ≡ 0

@@ -4,7 +4,7 @@
 -- Assumes nothing.
 use mathlib.Core.Path.{_≡_}
 use mathlib.Core.Bool.{true}
-use mathlib.Core.List.{List, [], _∷_, zipWith}
+use mathlib.Core.List.{List, [], _∷_, zipWith, Forall₂}
 use mathlib.Core.Logic.{_↔_}
 use mathlib.Core.Option.{some}
 use Prim.Native.Nat.{ℕ}
@@ -17,9 +17,9 @@ use Rattle.parameters.specs.Sets.{setOf}
 use Rattle.parameters.specs.Sound.{Sound, Fitting}
 use Rattle.polynomial.specs.Polynomial.{sub, star}
 use Rattle.polynomial.specs.Evaluation.{evaluations}
-use Rattle.challenge.specs.Draw.{drawChallenge, Sparse}
+use Rattle.challenge.specs.Draw.{drawChallenge}
 use Rattle.encoding.specs.Encoding.{secretKeySize, isKey, keyOf, publicKey}
-use Rattle.scheme.specs.Scheme.{Drawer, Signature}
+use Rattle.scheme.specs.Scheme.{Drawer, SparseDrawer, Signature}
 use Rattle.signing.specs.Signer.{maskAt}
 use Rattle.refusal.specs.declared.Signing.{Signing}
 use Rattle.refusal.specs.declared.Signing.the-variants as signing
@@ -34,7 +34,7 @@ use Rattle.checking.specs.Check.{signatureRead, checkAnswerIn, checkAnswer}
 pub record Encodable (draw : Drawer) (p : Params) : Type 0 where
   pub sound : Sound p
   pub fitting : Fitting p
-  pub draws : (w m : List ℕ) (c : List ℤ) → draw p w m ≡ some c → Sparse p c
+  pub draws : SparseDrawer draw p
 
 -- ---- a library of the scheme
 
@@ -91,12 +91,12 @@ ourLibrary =
 -- ---- one signing
 
 -- a signing that was made: its call, the number of the mask that signed, and the bytes of the signature
-pub record Made : Type 0 where
+pub record SigningRecord : Type 0 where
   pub call : Call
   pub mask : ℕ
   pub bytes : List ℕ
 
-module _ (l : Library) (m : Made) where
+module _ (l : Library) (m : SigningRecord) where
   -- the set of its key's first byte
   abbrev pub paramsOf : Params
   paramsOf = l .set (setByte (m .call .key))
@@ -135,7 +135,7 @@ module _ (l : Library) (m : Made) where
     pub bytes : l .writes (offeredAlone (m .call) other y) ≡ m .bytes
 
   -- the check, given the signature, the shared public evaluations and the same points and message, says yes
-  pub record SaysYes (other : List ℕ) : Type 0 where
+  pub record CheckedYes (other : List ℕ) : Type 0 where
     pub answer : l .checks (publicKey (setByte other) (m .call .exponents) (publicEvaluations other)) (m .call .message) (m .bytes) ≡ verdict.Yes
 
   -- the mask that does it: the signature's z minus the product ⋆ of the other key and the signature's challenge
@@ -155,13 +155,7 @@ abbrev pub Every : {A : Type 0} → (A → Type 0) → List A → Type 0
 Every P [] = Unit {0}
 Every P (a ∷ l) = P a × Every P l
 
--- two lists, or three, are equally long and R holds at each place
-abbrev pub Each : {A B : Type 0} → (A → B → Type 0) → List A → List B → Type 0
-Each R [] [] = Unit {0}
-Each R [] (b ∷ bs) = ⊥
-Each R (a ∷ l) [] = ⊥
-Each R (a ∷ l) (b ∷ bs) = R a b × Each R l bs
-
+-- three lists are equally long and R holds at each place
 abbrev pub Each₃ : {A B C : Type 0} → (A → B → C → Type 0) → List A → List B → List C → Type 0
 Each₃ R [] [] [] = Unit {0}
 Each₃ R [] [] (c ∷ cs) = ⊥
@@ -172,13 +166,13 @@ Each₃ R (a ∷ l) (b ∷ bs) (c ∷ cs) = R a b c × Each₃ R l bs cs
 
 -- demand 3 of a list of signings: for every list of other keys, one for each, exactly one list of masks, one for each, does at every place what the
 -- signing there did, and the check says yes at every place
-abbrev pub Hides : Library → List Made → Type 0
-Hides l ms =
-    (others : List (List ℕ)) → Each (OtherKey l) ms others
-    → ExactlyOne (λ (ys : List (List ℤ)). Each₃ (Same l) ms others ys) × Each (SaysYes l) ms others
+abbrev pub Hidden : Library → List SigningRecord → Type 0
+Hidden l ms =
+    (others : List (List ℕ)) → Forall₂ (OtherKey l) ms others
+    → ExactlyOne (λ (ys : List (List ℤ)). Each₃ (Same l) ms others ys) × Forall₂ (CheckedYes l) ms others
 
 -- and the masks that do so are z minus the product ⋆ of the other key and the challenge at every place, and no others
-abbrev pub HidesExactly : Library → List Made → Type 0
-HidesExactly l ms =
-    (others : List (List ℕ)) → Each (OtherKey l) ms others
+abbrev pub HiddenExactly : Library → List SigningRecord → Type 0
+HiddenExactly l ms =
+    (others : List (List ℕ)) → Forall₂ (OtherKey l) ms others
     → (ys : List (List ℤ)) → Each₃ (Same l) ms others ys ↔ (ys ≡ zipWith (maskFor l) ms others)

@@ -1,5 +1,4 @@
 pub mod WorkedCases
-pub mod Known
 pub mod FirstPassing
 pub mod VerdictRule
 pub mod Hiding

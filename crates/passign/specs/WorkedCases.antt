@@ -1,12 +1,11 @@
 -- The worked cases of document 01 in set 0: rows of one table, and the test of a row by the definitions that the entries' contracts cite.
 -- Assumes nothing.
-use mathlib.Core.Bool.{Bool, true, false, _&&_, not}
+use mathlib.Core.Bool.{Bool, true, false, _&&_, not, cond}
 use mathlib.Core.List.{List, [], _∷_, _++_, map}
 use Prim.Native.Nat.{ℕ, zero, suc, _-_}
 use lib.Dec.{eqb}
 use lib.IntN.{ℤ, pos, negsuc}
 use lib.ListN.{length, replicate}
-use Rattle.algebra.specs.Choice.{pick}
 use Rattle.algebra.specs.Integer.{within}
 use Rattle.parameters.specs.Sets.{setOf}
 use Rattle.polynomial.specs.Polynomial.{star, zOf}
@@ -43,21 +42,47 @@ minus (suc n) = negsuc n
 abbrev pub poly : ℤ → ℤ → ℤ → ℤ → ℤ → List ℤ
 poly a b c d e = a ∷ b ∷ c ∷ d ∷ e ∷ []
 
+-- a key and a challenge
+abbrev pub key : List ℤ
+key = poly (pos 1) (minus 1) (pos 0) (pos 1) (pos 0)
+
+abbrev pub challenge : List ℤ
+challenge = poly (pos 0) (pos 0) (pos 1) (minus 1) (pos 0)
+
+-- two keys with equal evaluations, and for each the mask that gives the same commitment and, with one challenge, the same point
+abbrev pub oneKey : List ℤ
+oneKey = poly (pos 0) (minus 1) (pos 0) (minus 1) (pos 0)
+
+abbrev pub otherKey : List ℤ
+otherKey = poly (pos 1) (pos 0) (pos 1) (pos 0) (pos 1)
+
+abbrev pub oneMask : List ℤ
+oneMask = poly (pos 5) (pos 0) (minus 4) (pos 0) (minus 2)
+
+abbrev pub otherMask : List ℤ
+otherMask = poly (pos 3) (minus 2) (minus 6) (minus 2) (minus 4)
+
+abbrev pub sharedChallenge : List ℤ
+sharedChallenge = poly (pos 0) (pos 0) (pos 1) (pos 1) (pos 0)
+
+abbrev pub sharedPoint : List ℤ
+sharedPoint = poly (pos 4) (minus 1) (minus 4) (minus 1) (minus 3)
+
 unfoldable pub cases : List Case
 cases =
-    draws (padded (0x02 ∷ replicate 7 0 ++ (0x00 ∷ 0x07 ∷ 0x00 ∷ 0x0C ∷ 0xFF ∷ 0xFF ∷ 0x00 ∷ 0x03 ∷ []))) (poly (pos 0) (pos 0) (pos 1) (minus 1) (pos 0))
+    draws (padded (0x02 ∷ replicate 7 0 ++ (0x00 ∷ 0x07 ∷ 0x00 ∷ 0x0C ∷ 0xFF ∷ 0xFF ∷ 0x00 ∷ 0x03 ∷ []))) challenge
     ∷ spent (padded [])
-    ∷ evaluates (poly (pos 1) (minus 1) (pos 0) (pos 1) (pos 0)) (7 ∷ 30 ∷ [])
-    ∷ multiplies (poly (pos 1) (minus 1) (pos 0) (pos 1) (pos 0)) (poly (pos 0) (pos 0) (pos 1) (minus 1) (pos 0)) (poly (pos 1) (minus 1) (pos 1) (minus 2) (pos 1))
-    ∷ reaches (poly (pos 1) (minus 1) (pos 0) (pos 1) (pos 0)) (poly (pos 0) (pos 0) (pos 1) (minus 1) (pos 0)) (poly (pos 3) (pos 4) (minus 5) (pos 2) (pos 0)) (poly (pos 4) (pos 3) (minus 4) (pos 0) (pos 1)) true
-    ∷ reaches (poly (pos 1) (minus 1) (pos 0) (pos 1) (pos 0)) (poly (pos 0) (pos 0) (pos 1) (minus 1) (pos 0)) (poly (pos 3) (pos 4) (minus 6) (pos 2) (pos 0)) (poly (pos 4) (pos 3) (minus 5) (pos 0) (pos 1)) false
-    ∷ evaluates (poly (pos 0) (minus 1) (pos 0) (minus 1) (pos 0)) (21 ∷ 25 ∷ [])
-    ∷ evaluates (poly (pos 1) (pos 0) (pos 1) (pos 0) (pos 1)) (21 ∷ 25 ∷ [])
-    ∷ reaches (poly (pos 0) (minus 1) (pos 0) (minus 1) (pos 0)) (poly (pos 0) (pos 0) (pos 1) (pos 1) (pos 0)) (poly (pos 5) (pos 0) (minus 4) (pos 0) (minus 2)) (poly (pos 4) (minus 1) (minus 4) (minus 1) (minus 3)) true
-    ∷ reaches (poly (pos 1) (pos 0) (pos 1) (pos 0) (pos 1)) (poly (pos 0) (pos 0) (pos 1) (pos 1) (pos 0)) (poly (pos 3) (minus 2) (minus 6) (minus 2) (minus 4)) (poly (pos 4) (minus 1) (minus 4) (minus 1) (minus 3)) true
-    ∷ evaluates (poly (pos 5) (pos 0) (minus 4) (pos 0) (minus 2)) (19 ∷ 18 ∷ [])
-    ∷ evaluates (poly (pos 3) (minus 2) (minus 6) (minus 2) (minus 4)) (19 ∷ 18 ∷ [])
-    ∷ encodes (poly (pos 0) (pos 0) (pos 1) (minus 1) (pos 0)) (poly (pos 4) (pos 3) (minus 4) (pos 0) (pos 1))
+    ∷ evaluates key (7 ∷ 30 ∷ [])
+    ∷ multiplies key challenge (poly (pos 1) (minus 1) (pos 1) (minus 2) (pos 1))
+    ∷ reaches key challenge (poly (pos 3) (pos 4) (minus 5) (pos 2) (pos 0)) (poly (pos 4) (pos 3) (minus 4) (pos 0) (pos 1)) true
+    ∷ reaches key challenge (poly (pos 3) (pos 4) (minus 6) (pos 2) (pos 0)) (poly (pos 4) (pos 3) (minus 5) (pos 0) (pos 1)) false
+    ∷ evaluates oneKey (21 ∷ 25 ∷ [])
+    ∷ evaluates otherKey (21 ∷ 25 ∷ [])
+    ∷ reaches oneKey sharedChallenge oneMask sharedPoint true
+    ∷ reaches otherKey sharedChallenge otherMask sharedPoint true
+    ∷ evaluates oneMask (19 ∷ 18 ∷ [])
+    ∷ evaluates otherMask (19 ∷ 18 ∷ [])
+    ∷ encodes challenge (poly (pos 4) (pos 3) (minus 4) (pos 0) (pos 1))
     (0x00 ∷ 0x00 ∷ 0x02 ∷ 0x80 ∷ 0x03 ∷ 0x00 ∷ 0x04 ∷ 0x00 ∷ 0x03 ∷ 0xFF ∷ 0xFC ∷ 0x00 ∷ 0x00 ∷ 0x00 ∷ 0x01 ∷ [])
     ∷ []
 
@@ -65,7 +90,7 @@ abbrev pub sameNumbers : List ℕ → List ℕ → Bool
 sameNumbers xs ys = equal (map pos xs) (map pos ys)
 
 abbrev pub sameBool : Bool → Bool → Bool
-sameBool a b = pick a b (not b)
+sameBool a b = cond a b (not b)
 
 -- the test of a row, in set 0
 unfoldable pub holds : Case → Bool

@@ -1,7 +1,11 @@
 // The readers and writers of the three encodings for C: 0, else the refusal number.
 ghost use mathlib.Core.Path.{_≡_};
 ghost use lib.ListN.{length};
-ghost use Rattle.codec.specs.Codec.{readSecretKeyRefusal, readSecretKeyWritten, writeSecretKeyRefusal, writeSecretKeyWritten, readPublicKeyRefusal, readExponentsWritten, readEvaluationsWritten, writePublicKeyRefusal, writePublicKeyWritten, readSignatureRefusal, readEntriesWritten, readZWritten, writeSignatureRefusal, writeSignatureWritten};
+ghost use Rattle.codec.specs.Codec.{readSecretKeyRefusal, readSecretKeyWritten, writeSecretKeyRefusal, writeSecretKeyWritten};
+ghost use Rattle.codec.specs.Codec.{readPublicKeyRefusal, readExponentsWritten, readEvaluationsWritten};
+ghost use Rattle.codec.specs.Codec.{writePublicKeyRefusal, writePublicKeyWritten};
+ghost use Rattle.codec.specs.Codec.{readSignatureRefusal, readEntriesWritten, readZWritten};
+ghost use Rattle.codec.specs.Codec.{writeSignatureRefusal, writeSignatureWritten};
 use crate::number;
 
 #[no_mangle]
@@ -45,7 +49,8 @@ pub extern "C" fn passign_write_public_key(
     public_key: &mut [u8],
 ) -> u32
     ensures answer { λ r. ⌜ r ≡ writePublicKeyRefusal set (now (points .entry)) (now (evaluations .entry)) (length (now («public_key» .entry))) ⌝ }
-    ensures written { λ r. ⌜ now («public_key» .exit) ≡ writePublicKeyWritten set (now (points .entry)) (now (evaluations .entry)) (now («public_key» .entry)) ⌝ }
+    ensures written { λ r. ⌜ now («public_key» .exit) ≡ writePublicKeyWritten set (now (points .entry)) (now (evaluations .entry))
+        (now («public_key» .entry)) ⌝ }
 {
     number(passign::write_public_key(set, points, evaluations, public_key))
 }

@@ -43,8 +43,10 @@ pub extern "C" fn passign_sign(
     message: &[u8],
     signature: &mut [u8],
 ) -> u32
-    ensures answer { λ r. ⌜ r ≡ signingNumber (signAnswer (now («secret_key» .entry)) (now (points .entry)) (now (masks .entry)) (now (message .entry)) (now (signature .entry))) ⌝ }
-    ensures written { λ r. ⌜ now (signature .exit) ≡ signWritten (now («secret_key» .entry)) (now (points .entry)) (now (masks .entry)) (now (message .entry)) (now (signature .entry)) ⌝ }
+    ensures answer { λ r. ⌜ r ≡ signingNumber (signAnswer (now («secret_key» .entry)) (now (points .entry)) (now (masks .entry))
+        (now (message .entry)) (now (signature .entry))) ⌝ }
+    ensures written { λ r. ⌜ now (signature .exit) ≡ signWritten (now («secret_key» .entry)) (now (points .entry)) (now (masks .entry))
+        (now (message .entry)) (now (signature .entry)) ⌝ }
 {
     let s = passign::sign(secret_key, points, masks, message, signature);
     match s {

@@ -3,45 +3,28 @@ ghost use Prim.Native.Nat.{_<_, _≤_};
 ghost use lib.ListN.{length};
 use libc::STDIN_FILENO;
 use libc::STDOUT_FILENO;
-use session::Answer;
-use session::Session;
+use parameters::ROW_ROOM;
+use session::PlayAnswer;
+use session::Played;
 use session::open;
 use session::play;
-use session_rows::row_size;
-
-// The session after a play, and whether the play wrote a row.
-struct Turn {
-    session: Session,
-    wrote: bool,
-}
+use session::row_size;
 
 // Writes the row at the front of a row buffer, whole.
-fn write_row(rows: &[u8]) {
+fn print_row(rows: &[u8]) {
     let size = row_size(rows);
     io::write_all(STDOUT_FILENO, &rows[..size]);
 }
 
 // Writes the row of a play that wrote one, and says whether it did.
-fn show(answer: Answer, rows: &[u8]) -> bool {
+fn show(answer: PlayAnswer, rows: &[u8]) -> bool {
     match answer {
-        Answer::Row(_) => {
-            write_row(rows);
+        PlayAnswer::Row(_) => {
+            print_row(rows);
             true
         }
-        Answer::Fault => false,
-        Answer::Ended => false,
-    }
-}
-
-// One play, and its row.
-fn play_one(session: Session, file: &[u8]) -> Turn {
-    let mut rows = [0u8; 16384];
-    let played = play(session, file, &mut rows);
-    let next = played.session;
-    let answer = played.answer;
-    Turn {
-        session: next,
-        wrote: show(answer, &rows),
+        PlayAnswer::Fault => false,
+        PlayAnswer::Ended => false,
     }
 }
 
@@ -57,13 +40,16 @@ fn left_after(wrote: bool, left: usize) -> usize
 fn play_all(file: &[u8])
     requires { ⌜ length (now file) ≤ 65537 ⌝ }
 {
-    let mut session = open();
+    let mut rows = [0u8; ROW_ROOM];
+    let mut played = Played {
+        session: open(),
+        answer: PlayAnswer::Fault,
+    };
     let mut left = file.len() + 1;
     while 0 < left {
-        let turn = play_one(session, file);
-        let next = turn.session;
-        session = next;
-        left = left_after(turn.wrote, left);
+        played = play(played.session, file, &mut rows);
+        let answer = played.answer;
+        left = left_after(show(answer, &rows), left);
     }
 }
 

@@ -8,7 +8,7 @@ use lib.ListN.{length}
 use Rattle.algebra.proofs.Ring.{ring, cancel-right}
 use Rattle.algebra.proofs.Congruence.{Cong, cong-refl, cong-eq, cong-trans, cong-add, cong-mul}
 use Rattle.polynomial.specs.Polynomial.{add, scale, neg, push, lastOf, rotate, star}
-use Rattle.polynomial.proofs.Length.{length-rotate}
+use Rattle.polynomial.proofs.Linear.{length-rotate}
 
 abbrev pub at : ℤ → List ℤ → ℤ
 at x [] = pos 0
@@ -18,7 +18,8 @@ abbrev pub power : ℤ → ℕ → ℤ
 power x zero = pos 1
 power x (suc n) = x *ℤ power x n
 
--- The steps of the inductions below, as identities of ℤ. They stand by themselves: `simp ring` sorts by the context, and in a recursive clause that would not be confirmed.
+-- The steps of the inductions below, as identities of ℤ. They stand by themselves: `simp ring` sorts by the context, and in a recursive clause that would
+-- not be confirmed.
 add-step : (x a b u v w : ℤ) → u ≡ v +ℤ w → a +ℤ b +ℤ x *ℤ u ≡ a +ℤ x *ℤ v +ℤ (b +ℤ x *ℤ w)
 add-step x a b u v w h = simp (h, ring)
 

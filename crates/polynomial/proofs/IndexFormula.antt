@@ -11,7 +11,8 @@ use Rattle.algebra.specs.Integer.{sum}
 use Rattle.algebra.proofs.Sum.{sum-same, sum-front}
 use Rattle.polynomial.specs.Polynomial.{coefficient, scale, star}
 use Rattle.polynomial.specs.Rotation.{rotations}
-use Rattle.polynomial.proofs.Coefficient.{coefficient-add, coefficient-scale, coefficient-rotations}
+use Rattle.polynomial.proofs.Linear.{coefficient-add, coefficient-scale}
+use Rattle.polynomial.proofs.Rotation.{coefficient-rotations}
 
 module _ (f : List ℤ) (n k : ℕ) (size : length f ≡ n) (below : k < n) where
   -- the summands, where c's first coefficient counts as number m
@@ -25,7 +26,7 @@ module _ (f : List ℤ) (n k : ℕ) (size : length f ≡ n) (below : k < n) wher
       coefficient-add (scale a (rotations m f)) (star (rotations (suc m) f) c) k
       ∙ ap₂ _+ℤ_
       (coefficient-scale a (rotations m f) k
-      ∙ ap (λ (u : ℤ). a *ℤ u) (coefficient-rotations f n m k size (omega arith) below)
+      ∙ ap (λ (u : ℤ). a *ℤ u) (coefficient-rotations f n m size (omega arith) k below)
       ∙ ap (λ (i : ℕ). a *ℤ coefficient f ((k + (n - i)) % n)) (sym (add-zero m)))
       (star-from (suc m) c (omega arith)
       ∙ sum-same (summandFrom (suc m) c) (λ (i : ℕ). summandFrom m (a ∷ c) (suc i)) (length c)

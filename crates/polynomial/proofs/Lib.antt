@@ -1,9 +1,7 @@
-pub mod Length
 pub mod Linear
 pub mod Bound
 pub mod Horner
 pub mod EvaluationLaws
-pub mod Coefficient
 pub mod IndexFormula
 pub mod Rotation
 pub mod Table

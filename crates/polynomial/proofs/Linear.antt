@@ -1,15 +1,70 @@
--- Sums and multiples of polynomials as equations of lists, also as a loop works them out, one coefficient a turn.
+-- Sums and multiples of polynomials: how many coefficients they have, the coefficients one by one, and laws as equations of lists, also as a loop works
+-- them out, one coefficient a turn. The lengths of rotations, products and points follow.
 -- Assumes nothing.
 use mathlib.Core.Path.{_≡_, refl, sym, ap, ap₂, _∙_}
 use mathlib.Core.List.{List, [], _∷_, _++_}
-use Prim.Native.Nat.{ℕ, zero, suc, _+_, _≤_, _<_}
+use Prim.Native.Nat.{ℕ, zero, suc, _≤_, _<_, max, zero-le}
 use native.Mathlib.Nat.{le-of-suc-le-suc, not-suc-le-zero}
-use native.Mathlib.Numerals.{add-one}
 use native.Mathlib.Omega.{arith}
-use lib.IntN.{ℤ, pos, _+ℤ_, _*ℤ_, negℤ, +ℤ-comm, +ℤ-assoc, +ℤ-idr, zero-*ℤ}
+use lib.IntN.{ℤ, pos, _+ℤ_, _*ℤ_, negℤ, +ℤ-comm, +ℤ-assoc, +ℤ-idl, +ℤ-idr, zero-*ℤ, *ℤ-zero}
 use lib.ListN.{length, take, set}
 use Rattle.algebra.proofs.Ring.{ring}
-use Rattle.polynomial.specs.Polynomial.{coefficient, add, scale, sub}
+use Rattle.polynomial.specs.Polynomial.{coefficient, add, scale, neg, sub, push, lastOf, rotate, star, zOf}
+use Rattle.polynomial.specs.Rotation.{rotations}
+
+-- ---- lengths
+pub length-scale : (a : ℤ) (f : List ℤ) → length (scale a f) ≡ length f
+length-scale a [] = refl
+length-scale a (x ∷ f) = ap suc (length-scale a f)
+
+pub length-neg : (f : List ℤ) → length (neg f) ≡ length f
+length-neg [] = refl
+length-neg (x ∷ f) = ap suc (length-neg f)
+
+-- a sum is as long as its longer summand
+pub length-add : (f h : List ℤ) → length (add f h) ≡ max (length f) (length h)
+length-add [] h = omega arith
+length-add (a ∷ f) [] = omega arith
+length-add (a ∷ f) (b ∷ h) = omega (arith, length-add f h)
+
+pub length-sub : (f h : List ℤ) → length h ≤ length f → length (sub f h) ≡ length f
+length-sub f h l = omega (arith, length-add f (neg h), length-neg h)
+
+length-push : (a : ℤ) (f : List ℤ) → length (push a f) ≡ length f
+length-push a [] = refl
+length-push a (x ∷ f) = ap suc (length-push x f)
+
+pub length-rotate : (f : List ℤ) → length (rotate f) ≡ length f
+length-rotate f = length-push (lastOf (pos 0) f) f
+
+pub length-rotations : (i : ℕ) (f : List ℤ) → length (rotations i f) ≡ length f
+length-rotations zero f = refl
+length-rotations (suc i) f = length-rotate (rotations i f) ∙ length-rotations i f
+
+-- at most: the product with no coefficient at all has none
+pub length-star : (f c : List ℤ) → length (star f c) ≤ length f
+length-star f [] = zero-le
+length-star f (a ∷ c) = omega (arith, length-add (scale a f) (star (rotate f) c), length-scale a f, length-star (rotate f) c, length-rotate f)
+
+pub length-z : (f c y : List ℤ) → length f ≤ length y → length (zOf f c y) ≡ length y
+length-z f c y l = omega (arith, length-add (star f c) y, length-star f c)
+
+-- ---- coefficients
+pub coefficient-add : (f h : List ℤ) (i : ℕ) → coefficient (add f h) i ≡ coefficient f i +ℤ coefficient h i
+coefficient-add [] h i = sym (+ℤ-idl (coefficient h i))
+coefficient-add (a ∷ f) [] i = sym (+ℤ-idr (coefficient (a ∷ f) i))
+coefficient-add (a ∷ f) (b ∷ h) zero = refl
+coefficient-add (a ∷ f) (b ∷ h) (suc i) = coefficient-add f h i
+
+pub coefficient-scale : (a : ℤ) (f : List ℤ) (i : ℕ) → coefficient (scale a f) i ≡ a *ℤ coefficient f i
+coefficient-scale a [] i = sym (*ℤ-zero a)
+coefficient-scale a (x ∷ f) zero = refl
+coefficient-scale a (x ∷ f) (suc i) = coefficient-scale a f i
+
+pub coefficient-neg : (f : List ℤ) (i : ℕ) → coefficient (neg f) i ≡ negℤ (coefficient f i)
+coefficient-neg [] i = refl
+coefficient-neg (x ∷ f) zero = refl
+coefficient-neg (x ∷ f) (suc i) = coefficient-neg f i
 
 pub add-nil : (f : List ℤ) → add f [] ≡ f
 add-nil [] = refl
@@ -30,7 +85,7 @@ add-assoc (a ∷ f) (b ∷ h) (c ∷ l) = ap₂ _∷_ (+ℤ-assoc a b c) (add-as
 add-sub : (z s : ℤ) → s +ℤ (z +ℤ negℤ s) ≡ z
 add-sub z s = simp ring
 
-sub-add : (y s : ℤ) → s +ℤ y +ℤ negℤ s ≡ y
+pub sub-add : (y s : ℤ) → s +ℤ y +ℤ negℤ s ≡ y
 sub-add y s = simp ring
 
 pub add-of-sub : (s z : List ℤ) → length s ≤ length z → add s (sub z s) ≡ z
@@ -68,15 +123,11 @@ module _ (a : ℤ) where
   added-first (x ∷ h) [] (suc i) l = refl
   added-first (x ∷ h) (b ∷ f) (suc i) l = added-first h f i (le-of-suc-le-suc l)
 
-  added-suc : (h f : List ℤ) (i : ℕ) → i < length h → i < length f
+  -- one coefficient more
+  pub added-suc : (h f : List ℤ) (i : ℕ) → i < length h → i < length f
       → set (add h (scale a (take i f))) i (coefficient h i +ℤ a *ℤ coefficient f i) ≡ add h (scale a (take (suc i) f))
   added-suc [] f i l m = absurd (not-suc-le-zero l)
   added-suc (x ∷ h) [] i l m = absurd (not-suc-le-zero m)
   added-suc (x ∷ h) (b ∷ f) zero l m = ap {B = List ℤ} (λ (u : List ℤ). (x +ℤ a *ℤ b) ∷ u) (sym (add-nil h))
   added-suc (x ∷ h) (b ∷ f) (suc i) l m =
       ap {B = List ℤ} (λ (u : List ℤ). (x +ℤ a *ℤ b) ∷ u) (added-suc h f i (le-of-suc-le-suc l) (le-of-suc-le-suc m))
-
-  -- one coefficient more
-  pub added-next : (h f : List ℤ) (i : ℕ) → i < length h → i < length f
-      → set (add h (scale a (take i f))) i (coefficient h i +ℤ a *ℤ coefficient f i) ≡ add h (scale a (take (i + 1) f))
-  added-next h f i l m = added-suc h f i l m ∙ ap (λ (n : ℕ). add h (scale a (take n f))) (sym (add-one i))

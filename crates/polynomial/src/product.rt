@@ -1,12 +1,15 @@
-// The point z = f ⋆ c + y as integers. A challenge has few coefficients that are not 0: each costs one pass over f.
+// The point z = f ⋆ c + y as integers, and the test of a range: of a point against k - b, of masks against k, of a key against 1.
+// A challenge has few coefficients that are not 0: each costs one pass over f.
 ghost use mathlib.Core.Path.{_≡_};
 ghost use Prim.Native.Nat.{_<_, _≤_, _^_};
-ghost use lib.Dec.{T};
+ghost use lib.Dec.{T, leb};
 ghost use lib.IntN.{natAbs, _+ℤ_, _*ℤ_};
 ghost use lib.ListN.{length};
 ghost use Rattle.algebra.specs.Integer.{within};
+ghost use Rattle.parameters.specs.Limits.{maxN};
 ghost use Rattle.polynomial.specs.Polynomial.{add, scale, zOf, ternary};
 ghost use Rattle.polynomial.specs.Rotation.{rotations};
+ghost use Rattle.polynomial.specs.Asks.{Addable};
 
 fn wide(a: i16) -> i32
     ensures { λ r. ⌜ r ≡ a ⌝ }
@@ -37,7 +40,7 @@ fn copy_wide(y: &[i16], z: &mut [i32])
 
 // z + a f.
 fn add_scaled(z: &mut [i32], f: &[i16], a: i8)
-    requires { ⌜ (length (now f) ≡ length (now z)) × T (within (2 ^ 16) (now z)) × T (ternary (now f)) × (natAbs a ≤ 1) ⌝ }
+    requires { ⌜ Addable (now z) (now f) a ⌝ }
     ensures { λ _. ⌜ now (z .exit) ≡ add (now (z .entry)) (scale a (now (f .entry))) ⌝ }
 {
     let mut i: usize = 0;
@@ -49,7 +52,7 @@ fn add_scaled(z: &mut [i32], f: &[i16], a: i8)
 
 // z + a times f rotated i places: the last i coefficients of f go to the front.
 fn add_rotated(z: &mut [i32], f: &[i16], i: usize, a: i8)
-    requires { ⌜ (length (now f) ≡ length (now z)) × (i ≤ length (now f)) × T (within (2 ^ 16) (now z)) × T (ternary (now f)) × (natAbs a ≤ 1) ⌝ }
+    requires { ⌜ Addable (now z) (now f) a × (i ≤ length (now f)) ⌝ }
     ensures { λ _. ⌜ now (z .exit) ≡ add (now (z .entry)) (scale a (rotations i (now (f .entry)))) ⌝ }
 {
     let cut = f.len() - i;
@@ -59,7 +62,7 @@ fn add_rotated(z: &mut [i32], f: &[i16], i: usize, a: i8)
 
 // The point f ⋆ c + y.
 pub fn z_of(f: &[i16], c: &[i8], y: &[i16], z: &mut [i32])
-    requires { ⌜ (length (now f) ≤ 1153) × (length (now c) ≡ length (now f)) × (length (now y) ≡ length (now f)) × (length (now z) ≡ length (now f)) ⌝ }
+    requires { ⌜ (length (now f) ≤ maxN) × (length (now c) ≡ length (now f)) × (length (now y) ≡ length (now f)) × (length (now z) ≡ length (now f)) ⌝ }
     requires { ⌜ T (ternary (now f)) × T (ternary (now c)) ⌝ }
     ensures { λ _. ⌜ now (z .exit) ≡ zOf (now (f .entry)) (now (c .entry)) (now (y .entry)) ⌝ }
 {
@@ -72,4 +75,54 @@ pub fn z_of(f: &[i16], c: &[i8], y: &[i16], z: &mut [i32])
         }
         i += 1;
     }
+}
+
+// Whether a is in -bound..bound.
+pub fn is_within(a: i32, bound: u32) -> bool
+    ensures { λ r. ⌜ r ≡ leb (natAbs a) bound ⌝ }
+{
+    if a < 0 {
+        ((-1 - a) as u32) < bound
+    } else {
+        (a as u32) <= bound
+    }
+}
+
+// Whether every coefficient of z is in -bound..bound.
+pub fn in_range(z: &[i32], bound: u32) -> bool
+    ensures { λ r. ⌜ r ≡ within bound (now (z .entry)) ⌝ }
+{
+    let mut all = true;
+    let mut i: usize = 0;
+    while i < z.len() {
+        all = all & is_within(z[i], bound);
+        i += 1;
+    }
+    all
+}
+
+// The same of numbers of 16 bits: masks, and the point of a signature.
+pub fn in_range16(values: &[i16], bound: u32) -> bool
+    ensures { λ r. ⌜ r ≡ within bound (now (values .entry)) ⌝ }
+{
+    let mut all = true;
+    let mut i: usize = 0;
+    while i < values.len() {
+        all = all & is_within(values[i] as i32, bound);
+        i += 1;
+    }
+    all
+}
+
+// The same of numbers of 8 bits against 1: whether each coefficient is -1, 0 or 1.
+pub fn is_ternary(f: &[i8]) -> bool
+    ensures { λ r. ⌜ r ≡ ternary (now (f .entry)) ⌝ }
+{
+    let mut all = true;
+    let mut i: usize = 0;
+    while i < f.len() {
+        all = all & is_within(f[i] as i32, 1);
+        i += 1;
+    }
+    all
 }

@@ -1,19 +1,20 @@
--- Answers and buffers by a refusal number, and the tests that have been passed where it is 0.
+-- Answers and buffers by a refusal number, the tests that lead to it, and those that have been passed where it is 0.
 -- Assumes nothing.
 use mathlib.Core.Path.{_≡_, refl}
-use mathlib.Core.Bool.{not}
+use mathlib.Core.Bool.{Bool, true, false, not, _&&_, cond}
 use mathlib.Core.List.{List}
 use mathlib.Core.Logic.{Iff·rfl}
 use Prim.Native.Nat.{ℕ, zero, suc}
-use native.Mathlib.Omega.{arith}
-use lib.Dec.{eqb}
+use lib.Dec.{eqb, eqb→eq}
 use lib.ListN.{length}
-use borrow.Author.Tests.{ne-eqb}
-use Rattle.algebra.specs.Choice.{pick}
+use borrow.Author.Tests.{eq-eqb, ne-eqb}
+use Rattle.algebra.proofs.Test.{and-left, and-right, true-holds}
+use Rattle.parameters.specs.declared.Params.{Params}
 use Rattle.parameters.specs.Sets.{isSet}
-use Rattle.refusal.specs.declared.Answer.the-variants.{Refused}
-use Rattle.refusal.specs.Answer.{answerOf, unlessRefused, setByte, numberOf}
-use Rattle.refusal.proofs.Refusal.{passed, step, equal-iff}
+use Rattle.refusal.specs.declared.Answer.the-variants.{Done, Refused}
+use Rattle.refusal.specs.Numbers.{wrongLength, wrongSet}
+use Rattle.refusal.specs.Answer.{answerOf, unlessRefused, BufferOutcome, setByte, setIn, inSet, inSetOf, numberOf}
+use Rattle.refusal.proofs.Refusal.{step, equal-iff}
 
 -- to C, an answer is the number that it was made of
 pub numbered : (n : ℕ) → numberOf (answerOf n) ≡ n
@@ -28,13 +29,40 @@ refused (suc n) h = refl
 pub kept : {A : Type 0} (n : ℕ) (written before : List A) → (n ≡ 0 → ⊥) → before ≡ unlessRefused n written before
 kept n written before h = rw (ne-eqb n 0 h)
 
+module _ {A : Type 0} {n : ℕ} {written before : List A} where
+  -- refused with m
+  pub wrote-nothing : (m : ℕ) → (m ≡ 0 → ⊥) → n ≡ m → BufferOutcome n (Refused m) written before before
+  wrote-nothing m h e = rw e (record { answers = refused m h; buffer = kept m written before h })
+
+  pub wrote : {after : List A} → n ≡ 0 → after ≡ written → BufferOutcome n Done written before after
+  wrote e w = rw e (record { answers = refl; buffer = w })
+
 -- a call that is not refused has passed each test of equal numbers in the chain
-pub passed-equal : (a b n x : ℕ) → pick (not (eqb a b)) (suc n) x ≡ 0 → (a ≡ b) × (x ≡ 0)
+pub passed-equal : (a b n x : ℕ) → cond (not (eqb a b)) (suc n) x ≡ 0 → (a ≡ b) × (x ≡ 0)
 passed-equal a b n x e = let h = step (eqb a b) n Iff·rfl .0 e in (equal-iff .0 (h .0), h .1)
 
--- those of the set byte, and before it of the length of what is read
-pub in-set : (s x : ℕ) → pick (not (isSet s)) 2 x ≡ 0 → x ≡ 0
-in-set s x e = step (isSet s) 1 Iff·rfl .0 e .1
+-- numbers that a guard has found equal
+pub both-equal : (a b c d : ℕ) → (eqb a b && eqb c d) ≡ true → (a ≡ b) × (c ≡ d)
+both-equal a b c d e = let t = true-holds e in (eqb→eq a b (and-left (eqb a b) _ t), eqb→eq c d (and-right (eqb a b) _ t))
 
-pub in-set-of : (xs : List ℕ) (x : ℕ) → pick (eqb (length xs) 0) 1 (pick (not (isSet (setByte xs))) 2 x) ≡ 0 → x ≡ 0
-in-set-of xs x e = in-set (setByte xs) x (passed (eqb (length xs) 0) (λ z. omega arith) Iff·rfl .0 e .1)
+pub three-equal : (a b c d e f : ℕ) → (eqb a b && (eqb c d && eqb e f)) ≡ true → (a ≡ b) × (c ≡ d) × (e ≡ f)
+three-equal a b c d e f h =
+    let t = true-holds h in
+    let u = and-right (eqb a b) _ t in
+    (eqb→eq a b (and-left (eqb a b) _ t), eqb→eq c d (and-left (eqb c d) _ u), eqb→eq e f (and-right (eqb c d) _ u))
+
+-- a writer that is not refused has been handed a set and the lengths that it asks
+pub set-passed : (s : ℕ) (lengths : Bool) (x : ℕ) → inSet s (λ p. cond (not lengths) wrongLength x) ≡ 0 → lengths ≡ true
+set-passed s lengths x e = step lengths 0 Iff·rfl .0 (step (isSet s) 1 Iff·rfl .0 e .1) .0
+
+-- a reader's first tests, of what it is handed and of the set byte
+module _ (xs : List ℕ) (refusal : Params → ℕ) where
+  pub empty-refused : length xs ≡ 0 → inSetOf xs refusal ≡ wrongLength
+  empty-refused e = rw (eq-eqb (length xs) 0 e)
+
+  module _ (some : length xs ≡ 0 → ⊥) where
+    pub set-refused : isSet (setByte xs) ≡ false → inSetOf xs refusal ≡ wrongSet
+    set-refused s = rw (ne-eqb (length xs) 0 some, s)
+
+    pub in-set : isSet (setByte xs) ≡ true → inSetOf xs refusal ≡ refusal (setIn xs)
+    in-set s = rw (ne-eqb (length xs) 0 some, s)

@@ -1,3 +1,4 @@
 pub mod Refusal
 pub mod Answering
 pub mod Apart
+pub mod SetRefusal

@@ -1,12 +1,12 @@
 -- What the entries' definitions share: messages too long, the set of an encoding, refusal numbers (0 for none), and document 01's number for each case of
 -- an answer.
 -- Assumes nothing.
-use mathlib.Core.Bool.{Bool, not}
+use mathlib.Core.Path.{_≡_}
+use mathlib.Core.Bool.{Bool, not, cond}
 use mathlib.Core.List.{List}
 use Prim.Native.Nat.{ℕ, zero, suc, _+_}
 use lib.Dec.{ltb, eqb}
 use lib.ListN.{length, getD}
-use Rattle.algebra.specs.Choice.{pick}
 use Rattle.parameters.specs.declared.Params.{Params}
 use Rattle.parameters.specs.Sets.{isSet, setOf}
 use Rattle.refusal.specs.declared.Answer.{Answer}
@@ -15,6 +15,7 @@ use Rattle.refusal.specs.declared.Signing.{Signing}
 use Rattle.refusal.specs.declared.Signing.the-variants as signing
 use Rattle.refusal.specs.declared.Verdict.{Verdict}
 use Rattle.refusal.specs.declared.Verdict.the-variants as verdict
+use Rattle.refusal.specs.Numbers.{wrongLength, wrongSet}
 
 -- an encoding's first byte is its set
 abbrev pub setByte : List ℕ → ℕ
@@ -28,13 +29,13 @@ setIn xs = setOf (setByte xs)
 abbrev pub isLong : List ℕ → Bool
 isLong message = ltb 65535 (length message)
 
--- 2 for a number that is no set, else the refusal number that the set decides
+-- refused for a number that is no set, else the refusal number that the set decides
 abbrev pub inSet : ℕ → (Params → ℕ) → ℕ
-inSet s refusal = pick (not (isSet s)) 2 (refusal (setOf s))
+inSet s refusal = cond (not (isSet s)) wrongSet (refusal (setOf s))
 
--- 1 for an empty encoding, then the set of its first byte
+-- refused for an empty encoding, then the set of its first byte
 abbrev pub inSetOf : List ℕ → (Params → ℕ) → ℕ
-inSetOf xs refusal = pick (eqb (length xs) 0) 1 (inSet (setByte xs) refusal)
+inSetOf xs refusal = cond (eqb (length xs) 0) wrongLength (inSet (setByte xs) refusal)
 
 -- the answer with this refusal number, 0 for none
 abbrev pub answerOf : ℕ → Answer
@@ -43,7 +44,12 @@ answerOf (suc n) = Refused (suc n)
 
 -- a buffer after a call with this refusal number: what is written, or as it was
 abbrev pub unlessRefused : {A : Type 0} → ℕ → List A → List A → List A
-unlessRefused n written before = pick (eqb n 0) written before
+unlessRefused n written before = cond (eqb n 0) written before
+
+-- what a call with this refusal number answers, and a buffer of it before and after
+pub record BufferOutcome {A : Type 0} (n : ℕ) (answer : Answer) (written before after : List A) : Type 0 where
+  pub answers : answer ≡ answerOf n
+  pub buffer : after ≡ unlessRefused n written before
 
 -- to C: 0 for done, else the refusal number
 abbrev pub numberOf : Answer → ℕ

@@ -16,7 +16,7 @@ module _ {p : Params} (sound : Sound p) (f c y : List ℤ) (size : length f ≡ 
   pub recovered-z : (exponents : List ℕ) → recovered p (record { c = c; z = zOf f c y }) exponents (evaluations p f exponents) ≡ evaluations p y exponents
   unfolding evaluations
   recovered-z [] = refl
-  recovered-z (j ∷ js) = ap₂ _∷_ (evaluation-mask sound f c y j size) (recovered-z js)
+  recovered-z (j ∷ js) = ap₂ _∷_ (evaluation-mask sound j f c y size) (recovered-z js)
 
   -- the mask with which another key h gives the same point, where the public evaluations are equal
   pub evaluations-other-mask : (h : List ℤ) → length h ≡ p .n → (exponents : List ℕ) → evaluations p h exponents ≡ evaluations p f exponents
@@ -24,4 +24,4 @@ module _ {p : Params} (sound : Sound p) (f c y : List ℤ) (size : length f ≡ 
   unfolding evaluations
   evaluations-other-mask h e [] same = refl
   evaluations-other-mask h e (j ∷ js) same =
-      ap₂ _∷_ (evaluation-other-mask sound f h c y j size e (sym (head-eq-of-cons-eq same))) (evaluations-other-mask h e js (tail-eq-of-cons-eq same))
+      ap₂ _∷_ (evaluation-other-mask sound j f h c y size e (sym (head-eq-of-cons-eq same))) (evaluations-other-mask h e js (tail-eq-of-cons-eq same))

@@ -1,4 +1,5 @@
--- The tests of the check as propositions: polynomials pass `equal` exactly where they are equal, a challenge passes `isDrawn` exactly where it is the drawn one.
+-- The tests of the check as propositions: polynomials pass `equal` exactly where they are equal, a challenge passes `isDrawn` exactly where it is the
+-- drawn one.
 -- Assumes nothing.
 use mathlib.Core.Path.{_≡_, refl, ap, ap₂, subst}
 use mathlib.Core.Bool.{true}

@@ -1,4 +1,3 @@
-pub mod Range
 pub mod FirstPassing
 pub mod Verdict
 pub mod Correctness

@@ -15,8 +15,8 @@ use Rattle.scheme.specs.Scheme.{Drawer, Signature, Signed, attempt, sign
 
 module _ (draw : Drawer) (p : Params) (exponents message : List ℕ) (f : List ℤ) where
   -- the first n masks fail
-  abbrev pub Fail : ℕ → List (List ℤ) → Type 0
-  Fail n ys = (i : ℕ) → i < n → attempt draw p exponents message f (getD ys i []) ≡ none
+  abbrev pub FailingMasks : ℕ → List (List ℤ) → Type 0
+  FailingMasks n ys = (i : ℕ) → i < n → attempt draw p exponents message f (getD ys i []) ≡ none
 
   -- the mask that passes first
   pub record Found (ys : List (List ℤ)) : Type 0 where
@@ -24,25 +24,31 @@ module _ (draw : Drawer) (p : Params) (exponents message : List ℕ) (f : List �
     pub signature : Signature
     pub offered : place < length ys
     pub passes : attempt draw p exponents message f (getD ys place []) ≡ some signature
-    pub earlier : Fail place ys
+    pub earlier : FailingMasks place ys
 
-  fail-cons : (y : List ℤ) (ys : List (List ℤ)) (n : ℕ) → attempt draw p exponents message f y ≡ none → Fail n ys → Fail (suc n) (y ∷ ys)
+  fail-cons : (y : List ℤ) (ys : List (List ℤ)) (n : ℕ) → attempt draw p exponents message f y ≡ none → FailingMasks n ys → FailingMasks (suc n) (y ∷ ys)
   fail-cons y ys n e a zero h = e
   fail-cons y ys n e a (suc i) h = a i (le-of-suc-le-suc h)
 
-  pub fail-tail : (y : List ℤ) (ys : List (List ℤ)) (n : ℕ) → Fail (suc n) (y ∷ ys) → Fail n ys
+  pub fail-tail : (y : List ℤ) (ys : List (List ℤ)) (n : ℕ) → FailingMasks (suc n) (y ∷ ys) → FailingMasks n ys
   fail-tail y ys n a i h = a (suc i) (suc-le-suc h)
 
   -- a mask passes first, or all fail
   search-cons : (y : List ℤ) (ys : List (List ℤ)) (o : Option Signature) → attempt draw p exponents message f y ≡ o
-      → Found ys ⊎ Fail (length ys) ys → Found (y ∷ ys) ⊎ Fail (suc (length ys)) (y ∷ ys)
+      → Found ys ⊎ FailingMasks (length ys) ys → Found (y ∷ ys) ⊎ FailingMasks (suc (length ys)) (y ∷ ys)
   search-cons y ys (some s) e rest =
       inl (record { place = 0; signature = s; offered = suc-le-suc zero-le; passes = e; earlier = λ i h. absurd (not-suc-le-zero h) })
   search-cons y ys none e (inl w) =
-      inl (record { place = suc (w .place); signature = w .signature; offered = suc-le-suc (w .offered); passes = w .passes; earlier = fail-cons y ys (w .place) e (w .earlier) })
+      inl (record {
+        place = suc (w .place);
+        signature = w .signature;
+        offered = suc-le-suc (w .offered);
+        passes = w .passes;
+        earlier = fail-cons y ys (w .place) e (w .earlier);
+      })
   search-cons y ys none e (inr a) = inr (fail-cons y ys (length ys) e a)
 
-  pub first-or-none : (ys : List (List ℤ)) → Found ys ⊎ Fail (length ys) ys
+  pub first-or-none : (ys : List (List ℤ)) → Found ys ⊎ FailingMasks (length ys) ys
   first-or-none [] = inr (λ i h. absurd (not-suc-le-zero h))
   first-or-none (y ∷ ys) = search-cons y ys (attempt draw p exponents message f y) refl (first-or-none ys)
 
@@ -51,8 +57,8 @@ module _ (draw : Drawer) (p : Params) (exponents message : List ℕ) (f : List �
   signed n y s = some (record { passedOver = n; commitment = evaluations p y exponents; signature = s })
 
   -- what signing gives in each case
-  signing-first : (n i : ℕ) (ys : List (List ℤ)) (s : Signature) → i < length ys → attempt draw p exponents message f (getD ys i []) ≡ some s → Fail i ys
-      → signing draw p exponents message n f ys ≡ signed (n + i) (getD ys i []) s
+  signing-first : (n i : ℕ) (ys : List (List ℤ)) (s : Signature) → i < length ys → attempt draw p exponents message f (getD ys i []) ≡ some s
+      → FailingMasks i ys → signing draw p exponents message n f ys ≡ signed (n + i) (getD ys i []) s
   signing-first n i [] s h e a = absurd (not-suc-le-zero h)
   signing-first n zero (y ∷ ys) s h e a = rw e (ap (λ (m : ℕ). signed m y s) (omega arith))
   signing-first n (suc i) (y ∷ ys) s h e a =
@@ -64,6 +70,6 @@ module _ (draw : Drawer) (p : Params) (exponents message : List ℕ) (f : List �
       signing-first 0 (w .place) ys (w .signature) (w .offered) (w .passes) (w .earlier)
       ∙ ap (λ (m : ℕ). signed m (getD ys (w .place) []) (w .signature)) (zero-add (w .place))
 
-  pub signing-none : (n : ℕ) (ys : List (List ℤ)) → Fail (length ys) ys → signing draw p exponents message n f ys ≡ none
+  pub signing-none : (n : ℕ) (ys : List (List ℤ)) → FailingMasks (length ys) ys → signing draw p exponents message n f ys ≡ none
   signing-none n [] a = refl
   signing-none n (y ∷ ys) a = rw (a 0 (suc-le-suc zero-le)) (signing-none (suc n) ys (fail-tail y ys (length ys) a))

@@ -1,4 +1,5 @@
--- The check says yes exactly when z is in range and the challenge is the one drawn from the recovered commitment (PASSign paper, section 3.3); otherwise it says no.
+-- The check says yes exactly when z is in range and the challenge is the one drawn from the recovered commitment (PASSign paper, section 3.3);
+-- otherwise it says no.
 -- Assumes nothing.
 use mathlib.Core.Path.{_≡_, sym, _∙_}
 use mathlib.Core.Bool.{true, false, _&&_, true≢false}
@@ -18,12 +19,11 @@ module _ (draw : Drawer) (p : Params) (exponents message vs : List ℕ) (s : Sig
   unfolding verdict
   verdict-true =
       let t = within (p .k - p .b) (s .z) in
-      let u = isDrawn (draw p (recovered p s exponents vs) message) (s .c) in (
-        λ e. record {
-          range = within-iff (p .k - p .b) (s .z) .0 (and-left t u (true-holds e));
-          challenge = isDrawn-iff (draw p (recovered p s exponents vs) message) (s .c) .0 (and-right t u (true-holds e));
-        },
-        λ v. holds-true (t && u) (and-intro t u (within-iff (p .k - p .b) (s .z) .1 (v .range)) (isDrawn-iff (draw p (recovered p s exponents vs) message) (s .c) .1 (v .challenge))),
+      let u = isDrawn (draw p (recovered p s exponents vs) message) (s .c) in
+      let in-range = within-iff (p .k - p .b) (s .z) in
+      let is-drawn = isDrawn-iff (draw p (recovered p s exponents vs) message) (s .c) in (
+        λ e. record { range = in-range .0 (and-left t u (true-holds e)); challenge = is-drawn .0 (and-right t u (true-holds e)) },
+        λ v. holds-true (t && u) (and-intro t u (in-range .1 (v .range)) (is-drawn .1 (v .challenge))),
       )
 
   pub verdict-false : (verdict draw p exponents message vs s ≡ false) ↔ ¬ Valid draw p exponents message vs s

@@ -2,22 +2,25 @@
 -- and any way to draw a challenge from a commitment and a message.
 -- Assumes nothing.
 use mathlib.Core.Path.{_≡_}
-use mathlib.Core.Bool.{Bool, true, false, _&&_}
+use mathlib.Core.Bool.{Bool, true, false, _&&_, cond}
 use mathlib.Core.List.{List, [], _∷_}
 use mathlib.Core.Option.{Option, none, some}
-use Prim.Native.Nat.{ℕ, suc, _-_, _*_, _≤_}
-use lib.Dec.{T, eqb}
+use Prim.Native.Nat.{ℕ, suc, _-_, _*_}
+use lib.Dec.{eqb}
 use lib.IntN.{ℤ, pos, negsuc, _-ℤ_}
-use lib.ListN.{length}
-use Rattle.algebra.specs.Choice.{pick}
 use Rattle.algebra.specs.Integer.{residue, within}
 use Rattle.parameters.specs.declared.Params.{Params}
-use Rattle.polynomial.specs.Polynomial.{zOf, ternary, weight}
-use Rattle.polynomial.specs.Evaluation.{evaluation, evaluations}
+use Rattle.polynomial.specs.Polynomial.{zOf}
+use Rattle.polynomial.specs.Sparse.{Sparse}
+use Rattle.polynomial.specs.Evaluation.{evaluations}
 
 -- a way to draw: of a set, a commitment and a message a challenge, or none where the pool is spent
 abbrev pub Drawer : Type 0
 Drawer = Params → List ℕ → List ℕ → Option (List ℤ)
+
+-- what theorems ask of it: a way to draw whose challenges are sparse
+abbrev pub SparseDrawer : Drawer → Params → Type 0
+SparseDrawer draw p = (w m : List ℕ) (c : List ℤ) → draw p w m ≡ some c → Sparse p c
 
 -- a signature: the challenge c and the point z
 pub record Signature : Type 0 where
@@ -32,7 +35,7 @@ pub record Signed : Type 0 where
 
 -- the signature with challenge c, key f and mask y, where all of z = f ⋆ c + y is in -(k-b)..(k-b)
 abbrev pub signatureInRange : Params → List ℤ → List ℤ → List ℤ → Option Signature
-signatureInRange p f y c = pick (within (p .k - p .b) (zOf f c y)) (some (record { c = c; z = zOf f c y })) none
+signatureInRange p f y c = cond (within (p .k - p .b) (zOf f c y)) (some (record { c = c; z = zOf f c y })) none
 
 -- a mask passes when its pool yields a challenge and z is in range
 abbrev pub withChallenge : Params → List ℤ → List ℤ → Option (List ℤ) → Option Signature
@@ -44,12 +47,16 @@ abbrev pub orElse : ℕ → List ℕ → Option Signature → Option Signed → 
 orElse n w (some s) rest = some (record { passedOver = n; commitment = w; signature = s })
 orElse n w none rest = rest
 
--- a commitment from the check's side: at each point z's evaluation minus the product of the public and the challenge's evaluation, reduced to 0..q-1
+-- at each place z minus v × c, reduced to 0..q-1
+abbrev pub differences : ℕ → List ℕ → List ℕ → List ℕ → List ℕ
+differences q [] vs cs = []
+differences q (z ∷ zs) [] cs = []
+differences q (z ∷ zs) (v ∷ vs) [] = []
+differences q (z ∷ zs) (v ∷ vs) (c ∷ cs) = residue (pos z -ℤ pos (v * c)) q ∷ differences q zs vs cs
+
+-- a commitment from the check's side: at each point z's evaluation minus the product of the public and the challenge's evaluation
 abbrev pub recovered : Params → Signature → List ℕ → List ℕ → List ℕ
-recovered p s [] vs = []
-recovered p s (j ∷ js) [] = []
-recovered p s (j ∷ js) (v ∷ vs) =
-    residue (pos (evaluation p (s .z) j) -ℤ pos (v * evaluation p (s .c) j)) (p .q) ∷ recovered p s js vs
+recovered p s exponents vs = differences (p .q) (evaluations p (s .z) exponents) vs (evaluations p (s .c) exponents)
 
 -- integers and polynomials are equal
 abbrev pub equalℤ : ℤ → ℤ → Bool
@@ -82,9 +89,3 @@ module _ (draw : Drawer) (p : Params) (exponents message : List ℕ) where
   -- the check of a signature against public evaluations: z in range, and the challenge of the recovered commitment is the given one
   unfoldable pub verdict : List ℕ → Signature → Bool
   verdict vs s = within (p .k - p .b) (s .z) && isDrawn (draw p (recovered p s exponents vs) message) (s .c)
-
--- what theorems ask of a way to draw: a drawn challenge has N coefficients, each -1, 0 or 1, and absolute values summing to at most b
-pub record Draws (draw : Drawer) (p : Params) : Type 0 where
-  pub size : (w m : List ℕ) (c : List ℤ) → draw p w m ≡ some c → length c ≡ p .n
-  pub small : (w m : List ℕ) (c : List ℤ) → draw p w m ≡ some c → T (ternary c)
-  pub light : (w m : List ℕ) (c : List ℤ) → draw p w m ≡ some c → weight c ≤ p .b

@@ -11,13 +11,13 @@ use Rattle.algebra.specs.All.{all}
 use Rattle.session_rules.specs.Play.{Session, opened, isRight}
 use Rattle.session_rules.proofs.EveryFileEnds.{every-file-ends}
 use Rattle.session.specs.declared.Session as code
-use Rattle.session.specs.Session.{sessionOf}
+use Rattle.session.specs.Session.{sessionIn, sessionOf}
 use Rattle.session.specs.Turns.{Turn, Turns, lentBy, lastSession}
 use Rattle.session.proofs.TurnsByRules.{turns-after}
 
 pub every-file-ends-in-plays : (s : code.Session) → sessionOf s ≡ opened → (file : List ℕ) (ts : List Turn) → Turns s file ts
-    → T (all isRight (lentBy ts)) → length file + 1 ≤ length ts → lastSession s ts .ended ≡ true
-unfolding sessionOf
+    → T (all isRight (lentBy ts)) → length file + 1 ≤ length ts → lastSession s ts .flags .ended ≡ true
+unfolding sessionOf sessionIn
 every-file-ends-in-plays s e file ts h right enough =
     ap (λ (r : Session). r .ended) (turns-after s e file ts h)
-    ∙ every-file-ends file (lentBy ts) right (rw (length-map ts (λ (t : Turn). t .lent)) enough)
+    ∙ every-file-ends file (lentBy ts) right (rw (length-map ts (λ (t : Turn). t .bufferBefore)) enough)

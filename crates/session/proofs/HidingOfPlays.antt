@@ -4,7 +4,7 @@
 use mathlib.Core.Path.{_≡_}
 use mathlib.Core.List.{List}
 use Prim.Native.Nat.{ℕ}
-use Rattle.passign.specs.Hiding.{ourLibrary, Accepted, Every, Hides, HidesExactly}
+use Rattle.passign.specs.Hiding.{ourLibrary, Accepted, Every, Hidden, HiddenExactly}
 use Rattle.session_rules.specs.Play.{opened}
 use Rattle.session_rules.specs.Plays.{signings, NoneSigned}
 use Rattle.session_rules.proofs.HidingOfSessions.{signings-accepted, hiding-of-sessions, hiding-of-sessions-exactly, no-signing}
@@ -20,11 +20,11 @@ module _ (s : code.Session) (e : sessionOf s ≡ opened) (file : List ℕ) (ts :
   signings-accepted-in-plays = rw (turns-by-rules s e file ts h) (signings-accepted file (lentBy ts))
 
   -- for keys of equal public evaluations, one for each accepted 06, exactly one list of masks does the same, and the check says yes to each
-  pub hiding-of-plays : Hides ourLibrary (signings (turnEvents s file ts))
+  pub hiding-of-plays : Hidden ourLibrary (signings (turnEvents s file ts))
   hiding-of-plays = rw (turns-by-rules s e file ts h) (hiding-of-sessions file (lentBy ts))
 
   -- for such keys, the masks that do the same are z - other ⋆ c of the signatures printed, and no others
-  pub hiding-of-plays-exactly : HidesExactly ourLibrary (signings (turnEvents s file ts))
+  pub hiding-of-plays-exactly : HiddenExactly ourLibrary (signings (turnEvents s file ts))
   hiding-of-plays-exactly = rw (turns-by-rules s e file ts h) (hiding-of-sessions-exactly file (lentBy ts))
 
   -- where no 06 was accepted there is no signing, and so the empty list of masks

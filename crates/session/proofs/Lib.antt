@@ -1,5 +1,7 @@
-pub mod Due
-pub mod RowCount
+mod Due
+mod Going
+mod RowCount
+mod RowText
 pub mod TurnsByRules
 pub mod HidingOfPlays
 pub mod EndOfPlays

@@ -17,18 +17,20 @@ unfolding turnEvents eventsFrom
 by-rules s file [] h = refl
 by-rules s file (t ∷ ts) h =
     ap₂ (λ (a b : List Event). a ++ b) (ap (eventOf (sessionOf s) file) (h .0))
-    (by-rules (t .gave .session) file ts (h .1) ∙ ap (λ (o : Outcome). eventsFrom (o .session) file (lentBy ts)) (h .0))
+    (by-rules (t .played .session) file ts (h .1) ∙ ap (λ (o : Outcome). eventsFrom (o .session) file (lentBy ts)) (h .0))
 
 -- the commands played
-pub turns-by-rules : (s : code.Session) → sessionOf s ≡ opened → (file : List ℕ) (ts : List Turn) → Turns s file ts → turnEvents s file ts ≡ events file (lentBy ts)
+pub turns-by-rules : (s : code.Session) → sessionOf s ≡ opened → (file : List ℕ) (ts : List Turn) → Turns s file ts
+    → turnEvents s file ts ≡ events file (lentBy ts)
 unfolding events
 turns-by-rules s e file ts h = by-rules s file ts h ∙ ap (λ (r : Session). eventsFrom r file (lentBy ts)) e
 
 after-from : (s : code.Session) (file : List ℕ) (ts : List Turn) → Turns s file ts → sessionOf (lastSession s ts) ≡ after (sessionOf s) file (lentBy ts)
 unfolding lastSession after
 after-from s file [] h = refl
-after-from s file (t ∷ ts) h = after-from (t .gave .session) file ts (h .1) ∙ ap (λ (o : Outcome). after (o .session) file (lentBy ts)) (h .0)
+after-from s file (t ∷ ts) h = after-from (t .played .session) file ts (h .1) ∙ ap (λ (o : Outcome). after (o .session) file (lentBy ts)) (h .0)
 
 -- the session after them
-pub turns-after : (s : code.Session) → sessionOf s ≡ opened → (file : List ℕ) (ts : List Turn) → Turns s file ts → sessionOf (lastSession s ts) ≡ after opened file (lentBy ts)
+pub turns-after : (s : code.Session) → sessionOf s ≡ opened → (file : List ℕ) (ts : List Turn) → Turns s file ts
+    → sessionOf (lastSession s ts) ≡ after opened file (lentBy ts)
 turns-after s e file ts h = after-from s file ts h ∙ ap (λ (r : Session). after r file (lentBy ts)) e

@@ -1,28 +1,32 @@
--- What a session of the code means, and what a play of it gives, held against the definitions of crate session_rules.
+-- What a session of the code means, and what a play of it gives.
 -- Assumes nothing.
-use mathlib.Core.Path.{_≡_}
 use mathlib.Core.List.{List}
 use Prim.Native.Nat.{ℕ, _-_}
 use lib.Dec.{ltb}
-use Rattle.algebra.specs.Choice.{pick}
-use Rattle.session_rules.specs.Play.{Session, Step, PlayAnswer, row, fault, over, Outcome, rowOf}
-use Rattle.session_rules.specs.Rows.{atFront}
+use lib.IntN.{ℤ}
+use mathlib.Core.Bool.{cond}
+use Rattle.session_rules.specs.Play.{Session, PlayAnswer, row, fault, over, Outcome}
+use Rattle.session_state.specs.declared.Flags.{Flags}
 use Rattle.session_state.specs.State.{heldOf}
 use Rattle.session.specs.declared.Session as code
-use Rattle.session.specs.declared.Answer as answer
-use Rattle.session.specs.declared.Answer.the-variants as answers
+use Rattle.session.specs.declared.PlayAnswer as answer
+use Rattle.session.specs.declared.PlayAnswer.the-variants as answers
 use Rattle.session.specs.declared.Played.{Played}
-use Rattle.session.specs.declared.step.Taken.{Taken}
 
 -- the row count: each row is of a byte of the file at least, behind the tag, so there are fewer rows than bytes passed; a count of more, which no play
 -- gives, means as many as there can be. So every value has a meaning, and the next ordinal is never too large
 abbrev pub rowsOf : ℕ → ℕ → ℕ
-rowsOf rows place = pick (ltb rows place) rows (place - 1)
+rowsOf rows place = cond (ltb rows place) rows (place - 1)
+
+-- from its flags and the lists of exponents, key bytes, evaluations, masks and message
+unfoldable pub sessionIn : Flags → List ℕ → List ℕ → List ℕ → List ℤ → List ℕ → Session
+sessionIn flags e k v m t =
+    record { ended = flags .ended; place = flags .place; rows = rowsOf (flags .rows) (flags .place); held = heldOf flags e k v m t }
 
 unfoldable pub sessionOf : code.Session → Session
-sessionOf s = record { ended = s .ended; place = s .place; rows = rowsOf (s .rows) (s .place); held = heldOf (s .held) }
+sessionOf s = sessionIn (s .flags) (s .exponents) (s .key) (s .evaluations) (s .masks) (s .message)
 
-abbrev pub playAnswerOf : answer.Answer → PlayAnswer
+abbrev pub playAnswerOf : answer.PlayAnswer → PlayAnswer
 playAnswerOf (answers.Row n) = row n
 playAnswerOf answers.Fault = fault
 playAnswerOf answers.Ended = over
@@ -30,9 +34,3 @@ playAnswerOf answers.Ended = over
 -- all that a play gives: the session after it, the answer, and the row buffer
 abbrev pub outcomeOf : Played → List ℕ → Outcome
 outcomeOf r buffer = record { session = sessionOf (r .session); answer = playAnswerOf (r .answer); buffer = buffer }
-
--- the play `t` was taken: session and number are its own, and its row stands at the front of the row buffer
-pub record Took (t : Step) (r : Taken) (old new : List ℕ) : Type 0 where
-  pub session : sessionOf (r .session) ≡ t .session
-  pub number : r .number ≡ t .number
-  pub row : new ≡ atFront (rowOf t) old

@@ -11,25 +11,25 @@ use Rattle.session.specs.Session.{sessionOf, outcomeOf}
 
 -- a play: the row buffer that it was lent, what it gave, and the row buffer after it
 pub record Turn : Type 0 where
-  pub lent : List ℕ
-  pub gave : Played
-  pub left : List ℕ
+  pub bufferBefore : List ℕ
+  pub played : Played
+  pub bufferAfter : List ℕ
 
 -- each turn is one that the contract of `play` allows of the session before it
 abbrev pub Turns : code.Session → List ℕ → List Turn → Type 0
 Turns s file [] = Unit {0}
-Turns s file (t ∷ ts) = (outcomeOf (t .gave) (t .left) ≡ play (sessionOf s) file (t .lent)) × Turns (t .gave .session) file ts
+Turns s file (t ∷ ts) = (outcomeOf (t .played) (t .bufferAfter) ≡ play (sessionOf s) file (t .bufferBefore)) × Turns (t .played .session) file ts
 
 -- the row buffers that the turns were lent
 abbrev pub lentBy : List Turn → List (List ℕ)
-lentBy ts = map (λ (t : Turn). t .lent) ts
+lentBy ts = map (λ (t : Turn). t .bufferBefore) ts
 
 -- the session that the last turn returned
 unfoldable pub lastSession : code.Session → List Turn → code.Session
 lastSession s [] = s
-lastSession s (t ∷ ts) = lastSession (t .gave .session) ts
+lastSession s (t ∷ ts) = lastSession (t .played .session) ts
 
 -- the commands that the turns played, with the answers that they gave and the row buffers that they left
 unfoldable pub turnEvents : code.Session → List ℕ → List Turn → List Event
 turnEvents s file [] = []
-turnEvents s file (t ∷ ts) = eventOf (sessionOf s) file (outcomeOf (t .gave) (t .left)) ++ turnEvents (t .gave .session) file ts
+turnEvents s file (t ∷ ts) = eventOf (sessionOf s) file (outcomeOf (t .played) (t .bufferAfter)) ++ turnEvents (t .played .session) file ts

@@ -1,1 +1,8 @@
-pub mod ByByte
+mod InForce
+mod Lent
+mod LookedUp
+mod MaskList
+mod Operand
+mod Readiness
+mod Shifting
+mod SigningCall

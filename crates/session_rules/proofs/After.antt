@@ -7,7 +7,7 @@ use Prim.Native.Nat.{ℕ}
 use native.Mathlib.Omega.{arith}
 use lib.ListN.{length}
 use borrow.Author.Tests.{eqb-true, eqb-false, not-true, not-false}
-use Rattle.algebra.proofs.Test.{pick-by}
+use Rattle.algebra.proofs.Test.{cond-by}
 use Rattle.session_rules.specs.Play.{Session, step, row, Outcome, isRight, faulty, late, written, play}
 
 module _ (s : Session) (file buffer : List ℕ) where
@@ -16,8 +16,8 @@ module _ (s : Session) (file buffer : List ℕ) where
       → (length buffer ≡ 16384 → s .ended ≡ false → P (written s file buffer)) → P (play s file buffer)
   unfolding play
   play-by P wrong ended right =
-      pick-by P (not (isRight buffer)) (λ t. wrong (eqb-false (length buffer) 16384 (not-true (isRight buffer) t)))
-      (λ t. pick-by P (s .ended) ended (right (eqb-true (length buffer) 16384 (not-false (isRight buffer) t))))
+      cond-by P (not (isRight buffer)) (λ t. wrong (eqb-false (length buffer) 16384 (not-true (isRight buffer) t)))
+      (λ t. cond-by P (s .ended) ended (right (eqb-true (length buffer) 16384 (not-false (isRight buffer) t))))
 
   pub play-written : length buffer ≡ 16384 → s .ended ≡ false → play s file buffer ≡ written s file buffer
   unfolding play

@@ -12,17 +12,17 @@ use Rattle.algebra.proofs.Test.{and-left, and-right, by-test}
 use Rattle.session_rules.specs.Play.{Session, Outcome, isRight, play}
 use Rattle.session_rules.specs.After.{after}
 use Rattle.session_rules.proofs.After.{play-by}
-use Rattle.session_rules.proofs.Moving.{moves}
+use Rattle.session_rules.proofs.Motion.{motion}
 
 -- where a play with a right buffer does not end the session, the place moves forward inside the file
 pub moves-on : (s : Session) (file buffer : List ℕ) → length buffer ≡ 16384 → play s file buffer .session .ended ≡ false
     → (s .place < play s file buffer .session .place) × (play s file buffer .session .place ≤ length file)
 moves-on s file buffer right =
     play-by s file buffer (λ (o : Outcome). o .session .ended ≡ false → (s .place < o .session .place) × (o .session .place ≤ length file))
-    (λ h e. absurd (h right)) (λ h e. absurd (true≢false (sym h ∙ e))) (λ h g e. moves s file .forward e)
+    (λ h e. absurd (h right)) (λ h e. absurd (true≢false (sym h ∙ e))) (λ h g e. motion s file .forward e)
 
 -- the end stays
-pub stays-ended : (s : Session) (file : List ℕ) (buffers : List (List ℕ)) → s .ended ≡ true → after s file buffers .ended ≡ true
+stays-ended : (s : Session) (file : List ℕ) (buffers : List (List ℕ)) → s .ended ≡ true → after s file buffers .ended ≡ true
 unfolding after
 stays-ended s file [] e = e
 stays-ended s file (buffer ∷ buffers) e =

@@ -16,7 +16,8 @@ use Rattle.session_rules.specs.Play.{Session, opened, isRight, play}
 use Rattle.session_rules.specs.After.{after}
 use Rattle.session_rules.proofs.Ending.{moves-on, ends-from}
 
-pub every-file-ends : (file : List ℕ) (buffers : List (List ℕ)) → T (all isRight buffers) → length file + 1 ≤ length buffers → after opened file buffers .ended ≡ true
+pub every-file-ends : (file : List ℕ) (buffers : List (List ℕ)) → T (all isRight buffers) → length file + 1 ≤ length buffers
+    → after opened file buffers .ended ≡ true
 unfolding opened
 every-file-ends file buffers right enough = ends-from opened file buffers right (omega arith) (omega arith)
 

@@ -10,9 +10,9 @@ use Rattle.session_rules.specs.Play.{opened}
 use Rattle.session_rules.specs.Plays.{events, noMaterial}
 use Rattle.session_rules.specs.HeldIsRead.{materialRead, noneAvailable, availableAfter, HeldIsRead}
 use Rattle.session_rules.specs.After.{after}
-use Rattle.session_rules.proofs.Reaching.{reached-opened, reached-after}
+use Rattle.session_rules.proofs.Kept.{held-read}
+use Rattle.session_rules.proofs.Reaching.{kept-after}
 
 pub held-is-read : (file : List ℕ) (buffers : List (List ℕ))
     → HeldIsRead (materialRead (events file buffers)) (availableAfter noMaterial noneAvailable (events file buffers)) (after opened file buffers .held)
-unfolding events
-held-is-read file buffers = reached-after noMaterial noneAvailable opened reached-opened file buffers .reads
+held-is-read file buffers = held-read (kept-after file buffers)

@@ -5,25 +5,21 @@
 -- Assumes nothing.
 use mathlib.Core.List.{List}
 use Prim.Native.Nat.{ℕ}
-use Rattle.passign.specs.Hiding.{ourLibrary, Accepted, Every, Hides, HidesExactly}
+use Rattle.passign.specs.Hiding.{ourLibrary, Accepted, Every, Hidden, HiddenExactly}
 use Rattle.passign.proofs.HidingOfMany as library
-use Rattle.session_rules.specs.Play.{opened}
 use Rattle.session_rules.specs.Plays.{events, noMaterial, signings, NoneSigned}
-use Rattle.session_rules.specs.HeldIsRead.{noneAvailable}
-use Rattle.session_rules.proofs.Reaching.{reached-opened}
 use Rattle.session_rules.proofs.Signings.{accepted-each, none-signed}
 
 module _ (file : List ℕ) (buffers : List (List ℕ)) where
   -- each accepted 06 is a signing that the library accepts with what is read, by the mask of that number and with the bytes printed
   pub signings-accepted : Every (Accepted ourLibrary) (signings (events file buffers))
-  unfolding signings events
-  signings-accepted = accepted-each noMaterial noneAvailable opened reached-opened file buffers
+  signings-accepted = accepted-each file buffers
 
-  pub hiding-of-sessions : Hides ourLibrary (signings (events file buffers))
+  pub hiding-of-sessions : Hidden ourLibrary (signings (events file buffers))
   hiding-of-sessions = library.entry-hiding-of-many (signings (events file buffers)) signings-accepted
 
   -- the masks are z - other ⋆ c of the signatures printed
-  pub hiding-of-sessions-exactly : HidesExactly ourLibrary (signings (events file buffers))
+  pub hiding-of-sessions-exactly : HiddenExactly ourLibrary (signings (events file buffers))
   hiding-of-sessions-exactly = library.entry-hiding-of-many-exactly (signings (events file buffers)) signings-accepted
 
   -- a list of plays with no accepted 06 has no signing, and so the empty list of masks

@@ -1,43 +1,38 @@
 -- What a session holds is never refused by the library's signing but with 9, nor by its check but with 12.
 -- Assumes nothing.
-use mathlib.Core.Path.{_≡_, refl, sym, ap, _∙_}
-use mathlib.Core.Bool.{Bool, true, false, not}
+use mathlib.Core.Path.{_≡_, sym, _∙_}
+use mathlib.Core.Bool.{Bool, true, false, not, cond}
 use mathlib.Core.List.{List, [], _∷_, _++_, flatten}
 use mathlib.Core.Option.{Option, none, some}
-use Prim.Native.Nat.{ℕ, zero, suc, _*_, _%_, _+_, _<_, _≤_}
+use Prim.Native.Nat.{ℕ, zero, suc, _*_, _+_, _<_}
 use native.Mathlib.Nat.{mul-mod-left, suc-mul, zero-mul, mul-le-mul-right}
 use native.Mathlib.Omega.{arith}
 use lib.Dec.{T, leb, eqb, eqb→eq}
 use lib.IntN.{ℤ, natAbs}
-use lib.ListN.{length, getD, drop, take, length-replicate}
+use lib.ListN.{length, getD, length-append, length-replicate}
 use lib.Seq.{take-at, drop-drop, drop-at}
 use borrow.Author.Tests.{eq-eqb, ne-eqb, le-leb, lt-ltb, le-ltb}
-use Rattle.algebra.specs.Choice.{pick}
 use Rattle.algebra.specs.All.{all}
-use Rattle.algebra.proofs.All.{all-append, all-at}
-use Rattle.algebra.proofs.List.{flatten-length}
-use Rattle.algebra.proofs.Test.{and-left, and-right, and-intro, holds-true, true-holds}
+use Rattle.algebra.proofs.All.{all-append}
+use Rattle.algebra.proofs.Test.{and-left, and-right, and-intro, holds-true}
 use Rattle.algebra.specs.Integer.{within}
 use Rattle.parameters.specs.declared.Params.{Params}
-use Rattle.parameters.specs.Sets.{setOf}
-use Rattle.parameters.proofs.Sound.{set-fitting}
+use Rattle.parameters.specs.Sound.{Sound, Fitting}
+use Rattle.parameters.proofs.Sound.{set-sound, set-fitting}
 use Rattle.challenge.specs.Draw.{drawChallenge}
 use Rattle.encoding.specs.Challenge.{areEntries}
-use Rattle.encoding.specs.Encoding.{isKey, keyOf, publicKeySize, publicKey, PublicKeyRange, signatureSize, entriesRead}
-use Rattle.encoding.proofs.Range.{public-key-range}
-use Rattle.encoding.proofs.OneEncoding.{public-key-length, exponents-read-back, evaluations-read-back}
-use Rattle.scheme.specs.Scheme.{Signed}
+use Rattle.encoding.specs.Encoding.{isKey, keyOf, secretKeySize, publicKey, signatureSize, entriesIn}
+use Rattle.scheme.specs.Scheme.{Signed, verdict}
 use Rattle.signing.specs.Signer.{maskAt, signedBy}
 use Rattle.refusal.specs.declared.Signing.the-variants as signing
-use Rattle.refusal.specs.declared.Verdict.the-variants as verdict
-use Rattle.signing.specs.Sign.{areMasks, signRefusalIn, signedAnswer, signAnswerIn, signAnswer}
-use Rattle.checking.specs.Check.{checkRefusalIn, checkVerdict, checkAnswerIn, checkAnswer}
+use Rattle.refusal.specs.declared.Verdict.the-variants as answer
+use Rattle.signing.specs.Sign.{areMasks, signRefusalIn, signRefusal, signedAnswer, signAnswer}
+use Rattle.checking.specs.Check.{bodyRead, checkRefusalOf, answerOn, checkAnswer}
+use Rattle.checking.proofs.Encoded.{encoded-answer}
 use Rattle.refusal.proofs.Apart.{refused-same, refused-not-signed, refused-not-yes, refused-not-no}
-use Rattle.signing.proofs.Allowed.{sign-allowed}
-use Rattle.passign.specs.Known.{Known}
-use Rattle.passign.proofs.Entry.{answer-entry}
+use Rattle.session_rules.specs.Held.{Chosen}
 use Rattle.session_rules.specs.Commands.{signatureRoom}
-use Rattle.session_rules.proofs.Fits.{isMask, ExponentsFit, KeyFits, EvaluationsFit}
+use Rattle.session_rules.proofs.Kept.{TestedSet, isMask, TestedExponents, TestedKey, TestedEvaluations, TestedMessage, TestedMasks}
 
 -- ---- masks one after the other
 
@@ -50,17 +45,20 @@ module _ (p : Params) where
         (and-right (eqb (length y) (p .n)) (within (p .k) y) m, and-right (isMask p y) (all (isMask p) ys) t),
       )
 
-  mask-size : (ys : List (List ℤ)) → T (all (isMask p) ys) → (k : ℕ) → k < length ys → length (getD ys k []) ≡ p .n
-  mask-size ys t k h =
-      let y = getD ys k [] in
-      eqb→eq (length y) (p .n) (and-left (eqb (length y) (p .n)) (within (p .k) y) (all-at (isMask p) ys [] t k h))
-
-  flatten-within : (ys : List (List ℤ)) → T (all (isMask p) ys) → T (within (p .k) (flatten ys))
+  flattened-size : (ys : List (List ℤ)) → T (all (isMask p) ys) → length (flatten ys) ≡ length ys * p .n
   unfolding flatten
-  flatten-within [] t = tt
-  flatten-within (y ∷ ys) t =
+  flattened-size [] t = omega (arith, zero-mul (p .n))
+  flattened-size (y ∷ ys) t =
       let (size, (small, rest)) = first-mask y ys t in
-      rw (all-append (λ (a : ℤ). leb (natAbs a) (p .k)) y (flatten ys)) (and-intro (within (p .k) y) (within (p .k) (flatten ys)) small (flatten-within ys rest))
+      omega (arith, length-append y (flatten ys), flattened-size ys rest, suc-mul (length ys) (p .n))
+
+  flattened-within : (ys : List (List ℤ)) → T (all (isMask p) ys) → T (within (p .k) (flatten ys))
+  unfolding flatten
+  flattened-within [] t = tt
+  flattened-within (y ∷ ys) t =
+      let (size, (small, rest)) = first-mask y ys t in
+      rw (all-append (λ (a : ℤ). leb (natAbs a) (p .k)) y (flatten ys))
+      (and-intro (within (p .k) y) (within (p .k) (flatten ys)) small (flattened-within ys rest))
 
   -- mask number i
   pub mask-of-flattened : (ys : List (List ℤ)) (i : ℕ) → T (all (isMask p) ys) → i < length ys → maskAt p (flatten ys) i ≡ getD ys i []
@@ -70,87 +68,64 @@ module _ (p : Params) where
   mask-of-flattened (y ∷ ys) (suc i) t h =
       let (size, (small, rest)) = first-mask y ys t in
       let e : suc i * p .n ≡ p .n + i * p .n = omega (arith, suc-mul i (p .n)) in
-      ap (λ (k : ℕ). take (p .n) (drop k (y ++ flatten ys))) e
-      ∙ ap (take (p .n)) (sym (drop-drop (i * p .n) (p .n) (y ++ flatten ys)) ∙ ap (drop (i * p .n)) (drop-at y (flatten ys) (p .n) size))
-      ∙ mask-of-flattened ys i rest (omega arith)
+      rw (e, ← drop-drop (i * p .n) (p .n) (y ++ flatten ys), drop-at y (flatten ys) (p .n) size) (mask-of-flattened ys i rest (omega arith))
 
-  masks-flattened : (ys : List (List ℤ)) → T (all (isMask p) ys) → length ys ≤ 8 → areMasks p (flatten ys) ≡ true
-  masks-flattened ys t few =
-      let l = flatten-length (p .n) ys (mask-size ys t) in
-      holds-true (areMasks p (flatten ys))
-      (and-intro (eqb (length (flatten ys) % p .n) 0) (leb (length (flatten ys)) (8 * p .n))
-      (true-holds (eq-eqb (length (flatten ys) % p .n) 0 (ap (λ (k : ℕ). k % p .n) l ∙ mul-mod-left (length ys) (p .n))))
-      (true-holds (le-leb (length (flatten ys)) (8 * p .n) (omega (arith, l, mul-le-mul-right (p .n) few)))))
+  masks-flattened : {ys : List (List ℤ)} → TestedMasks p ys → areMasks p (flatten ys) ≡ true
+  masks-flattened {ys} t =
+      let l = flattened-size ys (t .each) in
+      rw (l, mul-mod-left (length ys) (p .n)) (le-leb (length ys * p .n) (8 * p .n) (mul-le-mul-right (p .n) (t .few)))
 
--- ---- signing
+-- ---- in a known set
 
 signed-or-nine : (o : Option Signed) (n : ℕ) → signedAnswer o ≡ signing.Refused n → n ≡ 9
 signed-or-nine none n e = sym (refused-same e)
 signed-or-nine (some r) n e = absurd (refused-not-signed (sym e))
 
-module _ (s : ℕ) (known : s < 5) where
+answered : (entries says : Bool) (n : ℕ)
+    → cond (eqb (cond (not entries) 12 0) 0) (cond says answer.Yes answer.No) (answer.Refused (cond (not entries) 12 0)) ≡ answer.Refused n → n ≡ 12
+answered true true n e = absurd (refused-not-yes (sym e))
+answered true false n e = absurd (refused-not-no (sym e))
+answered false says n e = let f : 12 ≡ n = cc in sym f
+
+module _ {c : Chosen} (s : TestedSet c) where
   abbrev p : Params
-  p = setOf s
+  p = c .params
 
-  module _ (key exponents : List ℕ) (masks : List (List ℤ)) (message : List ℕ)
-      (k : KeyFits p key) (j : ExponentsFit p exponents) (t : T (all (isMask p) masks)) (few : length masks ≤ 8) (m : length message ≡ 64) where
-    known-key : Known (s ∷ key) message
-    known-key = record { message-size = omega arith; key-some = λ e. omega arith; set = known }
+  pub sound : Sound p
+  sound = rw (s .own) (set-sound (c .byte) (s .known))
 
-    allowed : signRefusalIn p (s ∷ key) exponents (flatten masks) (length (signatureRoom p)) ≡ 0
-    unfolding isKey
-    allowed = sign-allowed p (s ∷ key) exponents (flatten masks) (length (signatureRoom p)) .1 (record {
-      key-size = omega (arith, k .size);
-      exponents-size = j .size;
-      masks-size = masks-flattened p masks t few;
-      room-size = length-replicate (signatureSize p) 0;
-      exponents-rise = j .rise;
-      ternary = k .bytes;
-      small = holds-true (within (p .k) (flatten masks)) (flatten-within p masks t);
-    })
+  pub fitting : Fitting p
+  fitting = rw (s .own) (set-fitting (c .byte) (s .known))
 
-    pub sign-refused : (n : ℕ) → signAnswer (s ∷ key) exponents (flatten masks) message (signatureRoom p) ≡ signing.Refused n → n ≡ 9
-    unfolding signAnswerIn
+  module _ {key exponents : List ℕ} {masks : List (List ℤ)} {message : List ℕ}
+      (k : TestedKey p key) (j : TestedExponents p exponents) (t : TestedMasks p masks) (m : TestedMessage message) where
+    pub sign-refused : (n : ℕ) → signAnswer (c .byte ∷ key) exponents (flatten masks) message (signatureRoom p) ≡ signing.Refused n → n ≡ 9
+    unfolding signAnswer signRefusal signRefusalIn isKey
     sign-refused n e =
-        signed-or-nine (signedBy drawChallenge p (keyOf (s ∷ key)) exponents (flatten masks) message) n (rw allowed at (sym (answer-entry (s ∷ key) exponents (flatten masks) message (signatureRoom p) known-key) ∙ e))
+        signed-or-nine (signedBy drawChallenge p (keyOf (c .byte ∷ key)) exponents (flatten masks) message) n
+        (rw (
+          le-ltb 65535 (length message) (omega arith),
+          ne-eqb (length (c .byte ∷ key)) 0 (λ e. omega arith),
+          lt-ltb (c .byte) 5 (s .known),
+          ← s .own,
+          eq-eqb (suc (length key)) (secretKeySize p) (omega (arith, k .size)),
+          eq-eqb (length exponents) (p .t) (j .size),
+          masks-flattened p t,
+          eq-eqb (length (signatureRoom p)) (signatureSize p) (length-replicate (signatureSize p) 0),
+          j .rise,
+          k .bytes,
+          holds-true (within (p .k) (flatten masks)) (flattened-within p masks (t .each)),
+        ) at e)
 
   -- ---- the check
 
-  module _ (exponents vs message op : List ℕ) (j : ExponentsFit p exponents) (v : EvaluationsFit p vs) (m : length message ≡ 64)
-      (size : length op ≡ 2 * p .b + 2 * p .n) where
-    range : PublicKeyRange p exponents vs
-    range = public-key-range (set-fitting s known) exponents vs (j .size) (j .rise) (v .size) (v .below)
-
-    refusal : checkRefusalIn p (publicKey s exponents vs) (s ∷ op) ≡ pick (not (areEntries (p .n) (entriesRead p (s ∷ op)))) 12 0
-    unfolding checkRefusalIn
-    refusal =
-        rw (
-          eq-eqb (length (publicKey s exponents vs)) (publicKeySize p) (public-key-length p s exponents vs range),
-          eq-eqb (suc (length op)) (signatureSize p) (omega arith),
-          exponents-read-back p s exponents vs range,
-          evaluations-read-back p s exponents vs range,
-          j .rise,
-          v .below,
-        )
-
-    check-answer : checkAnswer (publicKey s exponents vs) message (s ∷ op) ≡ checkAnswerIn drawChallenge p (publicKey s exponents vs) message (s ∷ op)
-    unfolding checkAnswer publicKey
-    check-answer = rw (
-      le-ltb 65535 (length message) (omega arith),
-      ne-eqb (length (publicKey s exponents vs)) 0 (λ e. omega arith),
-      ne-eqb (length (s ∷ op)) 0 (λ e. omega arith),
-      lt-ltb s 5 known,
-      eq-eqb s s refl,
-    )
-
-    answered : (entries says : Bool) (n : ℕ)
-        → pick (eqb (pick (not entries) 12 0) 0) (pick says verdict.Yes verdict.No) (verdict.Refused (pick (not entries) 12 0)) ≡ verdict.Refused n → n ≡ 12
-    answered true true n e = absurd (refused-not-yes (sym e))
-    answered true false n e = absurd (refused-not-no (sym e))
-    answered false says n e = let f : 12 ≡ n = cc in sym f
-
-    pub check-refused : (n : ℕ) → checkAnswer (publicKey s exponents vs) message (s ∷ op) ≡ verdict.Refused n → n ≡ 12
-    unfolding checkAnswerIn
+  module _ {exponents vs message : List ℕ} (j : TestedExponents p exponents) (v : TestedEvaluations p vs) (m : TestedMessage message)
+      (op : List ℕ) (size : length op ≡ 2 * p .b + 2 * p .n) where
+    pub check-refused : (n : ℕ) → checkAnswer (publicKey (c .byte) exponents vs) message (c .byte ∷ op) ≡ answer.Refused n → n ≡ 12
+    unfolding answerOn checkRefusalOf
     check-refused n e =
-        answered (areEntries (p .n) (entriesRead p (s ∷ op))) (checkVerdict drawChallenge p (publicKey s exponents vs) message (s ∷ op)) n
-        (rw refusal at (sym check-answer ∙ e))
+        let known = lt-ltb (c .byte) 5 (s .known) in
+        let asked = rw (← s .own) at (encoded-answer (c .byte) exponents vs message op known (omega arith)) in
+        let on-lists = asked (j .size) (j .rise) (v .size) (v .below) size in
+        answered (areEntries (p .n) (entriesIn p op)) (verdict drawChallenge p exponents message vs (bodyRead p op)) n
+        (rw (j .rise, v .below) at (sym on-lists ∙ e))

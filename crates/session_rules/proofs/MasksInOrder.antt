@@ -6,16 +6,14 @@ use mathlib.Core.List.{List, []}
 use Prim.Native.Nat.{ℕ, _<_}
 use lib.ListN.{length, getD}
 use Rattle.signing.specs.Signer.{maskAt}
-use Rattle.session_rules.specs.Play.{opened}
-use Rattle.session_rules.specs.Plays.{events, noMaterial, paramsIn, callWith}
-use Rattle.session_rules.specs.HeldIsRead.{materialRead, noneAvailable}
+use Rattle.session_rules.specs.Plays.{events, paramsIn, callWith}
+use Rattle.session_rules.specs.HeldIsRead.{materialRead}
 use Rattle.session_rules.proofs.Library.{mask-of-flattened}
-use Rattle.session_rules.proofs.Reaching.{reached-opened, reached-after}
+use Rattle.session_rules.proofs.Reaching.{kept-after}
 
 pub masks-in-order : (file : List ℕ) (buffers : List (List ℕ)) (i : ℕ)
     → let m = materialRead (events file buffers) in i < length (m .masks) → maskAt (paramsIn m) (callWith m .masks) i ≡ getD (m .masks) i []
-unfolding events
 masks-in-order file buffers i h =
     let m = materialRead (events file buffers) in
-    let r = reached-after noMaterial noneAvailable opened reached-opened file buffers in
-    mask-of-flattened (paramsIn m) (m .masks) i (rw (r .reads .masks) at (r .fits .masks)) h
+    let (same, tested) = kept-after file buffers .masks in
+    mask-of-flattened (paramsIn m) (m .masks) i (rw same at (tested .each)) h

@@ -1,68 +1,98 @@
 -- Sessions that plays lead to: what is held is what is read, after any list of plays.
 -- Assumes nothing.
 use mathlib.Core.Path.{_≡_, refl}
+use mathlib.Core.Bool.{false}
 use mathlib.Core.List.{List, [], _∷_, _++_}
-use Prim.Native.Nat.{ℕ}
+use Prim.Native.Nat.{ℕ, _+_, _≤_}
 use native.Mathlib.Omega.{arith}
-use Rattle.session_rules.specs.Play.{Session, opened, step, Outcome, play}
-use Rattle.session_rules.specs.Plays.{Event, eventOf, eventsFrom, Material, noMaterial, paramsIn, withCommand}
-use Rattle.session_rules.specs.HeldIsRead.{Available, noneAvailable, materialAfter, availableWith, availableAfter, absent, HeldIsRead}
+use lib.ListN.{length, drop, length-drop}
+use lib.Seq.{length-take-le}
+use Rattle.session_rules.specs.Commands.{Result}
+use Rattle.session_rules.specs.Play.{Session, opened, Step, byteDue, sizeDue, operandDue, step, Outcome, rowOf}
+use Rattle.session_rules.specs.Rows.{atFront}
+use Rattle.session_rules.specs.Plays.{Event, eventOf, eventsFrom, events, Material, noMaterial, withAccepted, withCommand}
+use Rattle.session_rules.specs.HeldIsRead.{materialAfter, materialRead, Available, noneAvailable, availableWithAccepted, availableWith, availableAfter}
 use Rattle.session_rules.specs.After.{after, Reachable, just-opened, once-more}
+use Rattle.session_rules.proofs.Rows.{length-row}
+use Rattle.session_rules.proofs.Kept.{gone, KeptAll, only-set}
+use Rattle.session_rules.proofs.CommandFacts.{CommandFacts, refused-facts, accepted-facts, command-facts}
+use Rattle.session_rules.proofs.Cases.{step-by}
 use Rattle.session_rules.proofs.After.{play-by}
-use Rattle.session_rules.proofs.Fits.{Fits}
-use Rattle.session_rules.proofs.Stepping.{Steps, steps}
 
--- what holds of a session after commands that give the material t and leave av available
-pub record Reached (t : Material) (av : Available) (s : Session) : Type 0 where
-  pub reads : HeldIsRead t av (s .held)
-  pub fits : Fits (paramsIn t) av (s .held)
-
-pub reached-opened : Reached noMaterial noneAvailable opened
+pub kept-opened : KeptAll noMaterial noneAvailable (opened .held)
 unfolding opened noMaterial noneAvailable
-reached-opened = record {
-  reads = record { set = absent; exponents = absent; key = absent; evaluations = absent; message = absent; masks = refl };
-  fits = record { set = absent; exponents = absent; key = absent; evaluations = absent; message = absent; masks = tt; few = omega arith };
-}
+kept-opened = only-set noMaterial [] gone
 
-module _ (t : Material) (av : Available) (s : Session) (r : Reached t av s) (file : List ℕ) where
-  pub reached-step : Steps t av s (step s file)
-  reached-step = steps t av s (r .reads) (r .fits) file
+-- ---- one play that writes a row, whatever the file
 
-  -- one play
-  pub reached-play : (buffer : List ℕ)
-      → Reached (materialAfter t (eventOf s file (play s file buffer))) (availableAfter t av (eventOf s file (play s file buffer))) (play s file buffer .session)
-  unfolding materialAfter availableAfter withCommand availableWith
-  reached-play buffer =
-      let w = reached-step in
-      play-by s file buffer (λ (o : Outcome). Reached (materialAfter t (eventOf s file o)) (availableAfter t av (eventOf s file o)) (o .session)) (λ e. r) (λ e. r)
-      (λ e g. record { reads = w .reads; fits = w .fits })
+abbrev resultOf : Step → Result
+resultOf x = record { number = x .number; held = x .session .held; payload = x .payload }
 
--- ---- any list of plays
+abbrev pub StepFacts : Material → Available → Session → Step → Type 0
+StepFacts m a s x = CommandFacts m a (s .held) (x .byte) (x .operand) (x .session .ended) (resultOf x)
 
-material-append : (t : Material) (es ds : List Event) → materialAfter t (es ++ ds) ≡ materialAfter (materialAfter t es) ds
-unfolding materialAfter
-material-append t [] ds = refl
-material-append t (e ∷ es) ds = material-append (withCommand t e) es ds
+module _ (m : Material) (a : Available) (s : Session) (w : KeptAll m a (s .held)) (file : List ℕ) where
+  -- the operand lies whole in the file
+  operand-whole : (at size : ℕ) → at + 1 + size ≤ length file → length (operandDue file at size) ≡ size
+  operand-whole at size h = length-take-le size (drop (at + 1) file) (omega (arith, length-drop (at + 1) file))
 
-available-append : (t : Material) (av : Available) (es ds : List Event) → availableAfter t av (es ++ ds) ≡ availableAfter (materialAfter t es) (availableAfter t av es) ds
-unfolding materialAfter availableAfter
-available-append t av [] ds = refl
-available-append t av (e ∷ es) ds = available-append (withCommand t e) (availableWith t av e) es ds
+  pub step-facts : StepFacts m a s (step s file)
+  unfolding withCommand withAccepted availableWith availableWithAccepted
+  step-facts =
+      step-by s file (StepFacts m a s)
+      (λ n e f b. refused-facts m a (s .held) w [] 0 n (e .refusal) (e .no-nine) (e .ending))
+      (λ byte n e c. refused-facts m a (s .held) w [] byte n (e .refusal) (e .no-nine) (e .ending))
+      (λ c. accepted-facts m a (s .held) w [] 0 refl refl (omega arith) w)
+      (λ at g.
+      let d = g .allowed in
+      let size = sizeDue file at (s .held .set) in
+      command-facts m a (s .held) w (operandDue file at size) (byteDue file at) (d .known) (g .nonzero) (d .needs) (operand-whole at size (d .whole)))
 
-pub reached-after : (t : Material) (av : Available) (s : Session) → Reached t av s → (file : List ℕ) (buffers : List (List ℕ))
-    → Reached (materialAfter t (eventsFrom s file buffers)) (availableAfter t av (eventsFrom s file buffers)) (after s file buffers)
-unfolding materialAfter availableAfter eventsFrom after
-reached-after t av s r file [] = r
-reached-after t av s r file (buffer ∷ buffers) =
-    let es = eventOf s file (play s file buffer) in
-    let next = play s file buffer .session in
-    rw (material-append t es (eventsFrom next file buffers), available-append t av es (eventsFrom next file buffers))
-    (reached-after (materialAfter t es) (availableAfter t av es) next (reached-play t av s r file buffer) file buffers)
+  pub row-short : length (rowOf (step s file)) ≤ 16384
+  row-short = let x = step s file in length-row (x .ordinal) (x .byte) (x .number) (x .payload) (step-facts .short)
+
+-- the command that a play plays, where it writes a row
+abbrev pub rowEvent : Session → List ℕ → List ℕ → Event
+rowEvent s file buffer =
+    let x = step s file in
+    record { byte = x .byte; operand = x .operand; number = x .number; buffer = atFront (rowOf x) buffer }
+
+-- what is kept after it
+kept-row : (m : Material) (a : Available) (s : Session) → KeptAll m a (s .held) → (file buffer : List ℕ)
+    → KeptAll (withCommand m (rowEvent s file buffer)) (availableWith m a (rowEvent s file buffer)) (step s file .session .held)
+unfolding withCommand availableWith
+kept-row m a s w file buffer = step-facts m a s w file .keeps
+
+-- ---- any list of plays: a claim about the session before them, the commands played and the session after them, by the plays that write a row
+
+module _ (file : List ℕ) (C : Material → Available → Session → List Event → Session → Type 0)
+    (none : (m : Material) (a : Available) (s : Session) → KeptAll m a (s .held) → C m a s [] s)
+    (more : (m : Material) (a : Available) (s : Session) → KeptAll m a (s .held) → s .ended ≡ false → (buffer : List ℕ) (es : List Event) (t : Session)
+    → C (withCommand m (rowEvent s file buffer)) (availableWith m a (rowEvent s file buffer)) (step s file .session) es t
+    → C m a s (rowEvent s file buffer ∷ es) t) where
+  pub plays-by : (m : Material) (a : Available) (s : Session) → KeptAll m a (s .held) → (buffers : List (List ℕ))
+      → C m a s (eventsFrom s file buffers) (after s file buffers)
+  unfolding eventsFrom after
+  plays-by m a s w [] = none m a s w
+  plays-by m a s w (buffer ∷ buffers) =
+      play-by s file buffer
+      (λ (o : Outcome). C m a s (eventOf s file o ++ eventsFrom (o .session) file buffers) (after (o .session) file buffers))
+      (λ e. plays-by m a s w buffers) (λ e. plays-by m a s w buffers)
+      (λ e g. more m a s w g buffer _ _ (plays-by _ _ (step s file .session) (kept-row m a s w file buffer) buffers))
+
+pub kept-after : (file : List ℕ) (buffers : List (List ℕ))
+    → KeptAll (materialRead (events file buffers)) (availableAfter noMaterial noneAvailable (events file buffers)) (after opened file buffers .held)
+unfolding materialAfter availableAfter events
+kept-after file buffers =
+    plays-by file
+    (λ (m : Material) (a : Available) (s : Session) (es : List Event) (t : Session). KeptAll (materialAfter m es) (availableAfter m a es) (t .held))
+    (λ m a s w. w) (λ m a s w g buffer es t h. h) noMaterial noneAvailable opened kept-opened buffers
 
 -- ---- any session
 
-pub reached : {s : Session} → Reachable s → (t : Material) × ((av : Available) × Reached t av s)
-reached just-opened = (noMaterial, (noneAvailable, reached-opened))
-reached (once-more {s = s} r file buffer) =
-    let (t, (av, w)) = reached r in
-    (materialAfter t (eventOf s file (play s file buffer)), (availableAfter t av (eventOf s file (play s file buffer)), reached-play t av s w file buffer))
+pub kept-reachable : {s : Session} → Reachable s → (m : Material) × ((a : Available) × KeptAll m a (s .held))
+kept-reachable just-opened = (noMaterial, (noneAvailable, kept-opened))
+kept-reachable (once-more {s = s} r file buffer) =
+    play-by s file buffer (λ (o : Outcome). (m : Material) × ((a : Available) × KeptAll m a (o .session .held)))
+    (λ e. kept-reachable r) (λ e. kept-reachable r)
+    (λ e g. let (m, (a, w)) = kept-reachable r in (_, (_, kept-row m a s w file buffer)))

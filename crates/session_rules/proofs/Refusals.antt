@@ -11,14 +11,14 @@ use Prim.Native.Nat.{ℕ}
 use native.Mathlib.Omega.{arith}
 use lib.ListN.{length, drop, length-append, length-drop}
 use borrow.Author.Tests.{ne-eqb}
-use Rattle.algebra.proofs.Test.{pick-by}
+use Rattle.algebra.proofs.Test.{cond-by}
 use Rattle.session_rules.specs.Held.{Held}
 use Rattle.session_rules.specs.Play.{Session, step, row, answerNumber, Outcome, rowOf, faulty, late, play}
 use Rattle.session_rules.specs.After.{Reachable}
 use Rattle.session_rules.specs.Refusals.{isEnding, RowWritten}
 use Rattle.session_rules.proofs.After.{written-by}
-use Rattle.session_rules.proofs.Moving.{moves}
-use Rattle.session_rules.proofs.Reaching.{reached, reached-step}
+use Rattle.session_rules.proofs.Motion.{motion}
+use Rattle.session_rules.proofs.Reaching.{step-facts, row-short, kept-reachable}
 
 -- a session by its parts
 parts : (r : Session) {done : Bool} {place rows : ℕ} {h : Held} → r .ended ≡ done → r .place ≡ place → r .rows ≡ rows → r .held ≡ h
@@ -26,28 +26,30 @@ parts : (r : Session) {done : Bool} {place rows : ℕ} {h : Held} → r .ended �
 parts r e p n h = rw (← e, ← p, ← n, ← h)
 
 -- whatever session plays lead to, a play that answers a row with number n
-pub row-written : {s : Session} → Reachable s → (file buffer : List ℕ) (n : ℕ) → play s file buffer .answer ≡ row n → RowWritten s file buffer n (play s file buffer)
+pub row-written : {s : Session} → Reachable s → (file buffer : List ℕ) (n : ℕ) → play s file buffer .answer ≡ row n
+    → RowWritten s file buffer n (play s file buffer)
 row-written {s} r file buffer n =
-    let (t, (kept, w)) = reached r in
-    let x = reached-step t kept s w file in
-    let m = moves s file in
+    let (m, (a, w)) = kept-reachable r in
+    let x = step-facts m a s w file in
+    let short = row-short m a s w file in
+    let move = motion s file in
     let text = rowOf (step s file) in
     written-by s file buffer (RowWritten s file buffer n) n
     (λ right goes same. record {
       number = same;
       rest = λ z.
           let refused : step s file .number ≡ 0 → ⊥ = λ y. z (sym same ∙ y) in
-          let ends = x .refused-ends refused ∙ ap isEnding same in
+          let ends = x .refusal refused .ends ∙ ap isEnding same in
           parts (step s file .session) ends
-          (pick-by (λ (p : ℕ). step s file .session .place ≡ p) (isEnding n) (λ e. m .stays (ends ∙ e) .0) (λ e. refl))
-          (pick-by (λ (r : ℕ). step s file .session .rows ≡ r) (isEnding n) (λ e. m .stays (ends ∙ e) .1) (λ e. m .counts (ends ∙ e)))
-          (rw (← same) (x .leaves refused));
-      forward = m .forward;
-      alone = λ z. x .alone (λ y. z (sym same ∙ y));
+          (cond-by (λ (p : ℕ). step s file .session .place ≡ p) (isEnding n) (λ e. move .stays (ends ∙ e) .0) (λ e. refl))
+          (cond-by (λ (r : ℕ). step s file .session .rows ≡ r) (isEnding n) (λ e. move .stays (ends ∙ e) .1) (λ e. move .counts (ends ∙ e)))
+          (rw (← same) (x .refusal refused .leaves));
+      forward = move .forward;
+      alone = λ z. x .refusal (λ y. z (sym same ∙ y)) .alone;
       accepted-ends = λ z. x .accepted-ends (same ∙ z);
       buffer-is = refl;
-      row-fits = omega (arith, x .short);
-      same-length = length-append text (drop (length text) buffer) ∙ omega (arith, x .short, length-drop (length text) buffer);
+      row-fits = omega arith;
+      same-length = length-append text (drop (length text) buffer) ∙ omega (arith, length-drop (length text) buffer);
     })
 
 -- a wrong row buffer is at fault ahead of all else: session and buffer are left

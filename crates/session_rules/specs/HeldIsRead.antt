@@ -2,12 +2,11 @@
 -- command has forgotten.
 -- Assumes nothing.
 use mathlib.Core.Path.{_≡_}
-use mathlib.Core.Bool.{Bool, true, false}
+use mathlib.Core.Bool.{Bool, true, false, cond}
 use mathlib.Core.List.{List, [], _∷_}
 use mathlib.Core.Option.{Option, none, some}
 use Prim.Native.Nat.{ℕ}
 use lib.Dec.{eqb}
-use Rattle.algebra.specs.Choice.{pick}
 use Rattle.encoding.specs.Bytes.{numbers}
 use Rattle.session_rules.specs.Held.{Chosen, Held}
 use Rattle.session_rules.specs.Commands.{keyEvaluations}
@@ -34,42 +33,45 @@ pub record Available : Type 0 where
 unfoldable pub noneAvailable : Available
 noneAvailable = record { set = false; exponents = false; key = false; evaluations = false; message = false; values = [] }
 
+module _ (a : Available) where
+  -- one setter for each, evaluations with their values
+  abbrev pub setExponents : Bool → Available
+  setExponents x =
+      record { set = a .set; exponents = x; key = a .key; evaluations = a .evaluations; message = a .message; values = a .values }
+
+  abbrev pub setKey : Bool → Available
+  setKey x =
+      record { set = a .set; exponents = a .exponents; key = x; evaluations = a .evaluations; message = a .message; values = a .values }
+
+  abbrev pub setEvaluations : Bool → List ℕ → Available
+  setEvaluations x vs = record { set = a .set; exponents = a .exponents; key = a .key; evaluations = x; message = a .message; values = vs }
+
+  abbrev pub setMessage : Bool → Available
+  setMessage x =
+      record { set = a .set; exponents = a .exponents; key = a .key; evaluations = a .evaluations; message = x; values = a .values }
+
+  -- nothing but a set
+  abbrev pub setAlone : Available
+  setAlone = record { set = true; exponents = false; key = false; evaluations = false; message = false; values = a .values }
+
 -- one more accepted command: 01 forgets all else, 02 forgets key and public evaluations, 03 works out its public evaluations, 08 forgets the key
 unfoldable pub availableWithAccepted : Material → Available → ℕ → List ℕ → Available
 availableWithAccepted m a b op =
-    pick (eqb b 1) (record { set = true; exponents = false; key = false; evaluations = false; message = false; values = a .values })
-    (pick (eqb b 2) (record { set = a .set; exponents = true; key = false; evaluations = false; message = a .message; values = a .values })
-    (pick (eqb b 3) (record {
-      set = a .set;
-      exponents = a .exponents;
-      key = true;
-      evaluations = true;
-      message = a .message;
-      values = keyEvaluations (paramsIn m) (m .exponents) op;
-    })
-    (pick (eqb b 5) (record { set = a .set; exponents = a .exponents; key = a .key; evaluations = a .evaluations; message = true; values = a .values })
-    (pick (eqb b 8) (record {
-      set = a .set;
-      exponents = a .exponents;
-      key = false;
-      evaluations = true;
-      message = a .message;
-      values = numbers 3 (paramsIn m .t) op;
-    })
+    cond (eqb b 0x01) (setAlone a)
+    (cond (eqb b 0x02) (setEvaluations (setKey (setExponents a true) false) false (a .values))
+    (cond (eqb b 0x03) (setEvaluations (setKey a true) true (keyEvaluations (paramsIn m) (m .exponents) op))
+    (cond (eqb b 0x05) (setMessage a true)
+    (cond (eqb b 0x08) (setEvaluations (setKey a false) true (numbers 3 (paramsIn m .t) op))
     a))))
 
 -- one more command
 unfoldable pub availableWith : Material → Available → Event → Available
-availableWith m a e = pick (eqb (e .number) 0) (availableWithAccepted m a (e .byte) (e .operand)) a
+availableWith m a e = cond (eqb (e .number) 0) (availableWithAccepted m a (e .byte) (e .operand)) a
 
 -- more commands
 unfoldable pub availableAfter : Material → Available → List Event → Available
 availableAfter m a [] = a
 availableAfter m a (e ∷ es) = availableAfter (withCommand m e) (availableWith m a e) es
-
--- the set read, in force
-abbrev pub setRead : Material → Chosen
-setRead m = record { byte = m .set; params = paramsIn m }
 
 -- where a thing is available something is held, and P of it; elsewhere nothing is
 pub data Holding {A : Type 0} (P : A → Type 0) : Bool → Option A → Type 0 where
@@ -78,7 +80,7 @@ pub data Holding {A : Type 0} (P : A → Type 0) : Bool → Option A → Type 0 
 
 -- what is held is what is read
 pub record HeldIsRead (m : Material) (a : Available) (h : Held) : Type 0 where
-  pub set : Holding (λ (c : Chosen). c ≡ setRead m) (a .set) (h .set)
+  pub set : Holding (λ (c : Chosen). c ≡ m .set) (a .set) (h .set)
   pub exponents : Holding (λ (l : List ℕ). l ≡ m .exponents) (a .exponents) (h .exponents)
   pub key : Holding (λ (l : List ℕ). l ≡ m .key) (a .key) (h .key)
   pub evaluations : Holding (λ (l : List ℕ). l ≡ a .values) (a .evaluations) (h .evaluations)

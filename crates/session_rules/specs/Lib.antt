@@ -1,4 +1,5 @@
 pub mod Held
+pub mod CommandTable
 pub mod Commands
 pub mod Rows
 pub mod Play

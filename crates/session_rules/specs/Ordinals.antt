@@ -1,12 +1,11 @@
 -- Document 01: ordinals count from 1, and "Before the first command (1, 15) the row has ordinal 0 and byte 00".
 -- Assumes nothing.
 use mathlib.Core.Path.{_≡_}
-use mathlib.Core.Bool.{Bool, true, false, not, _&&_, _||_}
+use mathlib.Core.Bool.{Bool, true, false, not, _&&_, _||_, cond}
 use mathlib.Core.List.{List}
 use Prim.Native.Nat.{ℕ, _+_}
 use lib.Dec.{ltb, eqb}
 use lib.ListN.{length}
-use Rattle.algebra.specs.Choice.{pick}
 use Rattle.session_rules.specs.Play.{Session, Step, isTagged}
 
 -- a play of session s is refused before the first command: it is the first play, and the file is too long or its tag is wrong or short
@@ -17,7 +16,7 @@ isBeforeFirst s file = eqb (s .place) 0 && (ltb 65536 (length file) || not (isTa
 pub record BeforeFirst (file : List ℕ) (x : Step) : Type 0 where
   pub ordinal : x .ordinal ≡ 0
   pub byte : x .byte ≡ 0
-  pub number : x .number ≡ pick (ltb 65536 (length file)) 1 15
+  pub number : x .number ≡ cond (ltb 65536 (length file)) 1 15
 
 -- the row x of a play of session s, with so many rows before it: it stands before the first command just where the play is refused there, and
 -- every other row has the next ordinal

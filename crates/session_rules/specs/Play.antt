@@ -1,14 +1,15 @@
 -- A session and one play of it: tests in the document's order, the session after it, and the row.
 -- Assumes nothing.
-use mathlib.Core.Bool.{Bool, true, false, not, _&&_}
+use mathlib.Core.Bool.{Bool, true, false, not, _&&_, cond}
 use mathlib.Core.List.{List, []}
 use mathlib.Core.Option.{Option, none, some}
 use Prim.Native.Nat.{ℕ, _+_}
 use lib.Dec.{ltb, leb, eqb}
 use lib.ListN.{length, getD, take, drop}
-use Rattle.algebra.specs.Choice.{pick}
-use Rattle.session_rules.specs.Held.{Chosen, Held, onlySet}
-use Rattle.session_rules.specs.Commands.{Payload, nothing, Done, isKnown, needsSet, operandSize, command}
+use Rattle.refusal.specs.Numbers.{wrongLength, noSet, fileEnds, unknownCommand, wrongTag, bytesAfterEnd}
+use Rattle.session_rules.specs.Held.{Chosen, paramsOf, isHeld, Held, onlySet}
+use Rattle.session_rules.specs.CommandTable.{isKnown, commandOf}
+use Rattle.session_rules.specs.Commands.{Payload, nothing, Result, command}
 use Rattle.session_rules.specs.Rows.{rowText, atFront}
 
 -- whether the session has ended, its place in the file (0 before the first play), its row count, and what is held
@@ -36,10 +37,9 @@ unfoldable pub isTagged : List ℕ → Bool
 isTagged file =
     leb 4 (length file) && (eqb (getD file 0 0) 0x50 && (eqb (getD file 1 0) 0x53 && (eqb (getD file 2 0) 0x47 && eqb (getD file 3 0) 0x31)))
 
--- no set is in force
-abbrev pub lacksSet : Option Chosen → Bool
-lacksSet none = true
-lacksSet (some c) = false
+-- a command that needs a set has none
+abbrev pub lacksSet : ℕ → Option Chosen → Bool
+lacksSet b set = commandOf b .needsSet && not (isHeld set)
 
 module _ (file : List ℕ) (at : ℕ) where
   -- the command byte due at a place: 00 where the file ends
@@ -53,15 +53,15 @@ module _ (file : List ℕ) (at : ℕ) where
   module _ (set : Option Chosen) where
     -- the size of its operand, in the set in force
     abbrev pub sizeDue : ℕ
-    sizeDue = operandSize set byteDue
+    sizeDue = commandOf byteDue .size (paramsOf set)
 
     -- the refusal that ends the session where a command is due, or 0: 13 where the file ends, 14, 3, 13 inside the operand
     unfoldable pub refusalDue : ℕ
     refusalDue =
-        pick (leb (length file) at) 13
-        (pick (not (isKnown byteDue)) 14
-        (pick (needsSet byteDue && lacksSet set) 3
-        (pick (ltb (length file) (at + 1 + sizeDue)) 13 0)))
+        cond (leb (length file) at) fileEnds
+        (cond (not (isKnown byteDue)) unknownCommand
+        (cond (lacksSet byteDue set) noSet
+        (cond (ltb (length file) (at + 1 + sizeDue)) fileEnds 0)))
 
 module _ (s : Session) where
   -- a row that ends the session. Nothing is played from there, so its place and row count stay, with all that is held
@@ -85,7 +85,7 @@ module _ (s : Session) where
   endsAt byte number = endsWith (s .rows + 1) byte number
 
   -- a command that goes on behind its operand
-  abbrev pub goesOn : ℕ → ℕ → List ℕ → Done → Step
+  abbrev pub goesOn : ℕ → ℕ → List ℕ → Result → Step
   goesOn next byte operand d =
       record {
         session = record { ended = false; place = next; rows = s .rows + 1; held = d .held };
@@ -99,7 +99,7 @@ module _ (s : Session) where
   module _ (file : List ℕ) (at : ℕ) where
     -- 00 ends the session: accepted where nothing follows, else 16
     abbrev pub endCommand : Step
-    endCommand = endsAt 0 (pick (eqb (length file) (at + 1)) 0 16)
+    endCommand = endsAt 0 (cond (eqb (length file) (at + 1)) 0 bytesAfterEnd)
 
     -- any other command, with an operand of this size, goes on
     abbrev pub goingCommand : ℕ → Step
@@ -108,16 +108,16 @@ module _ (s : Session) where
     -- the command due at a place: a refusal that is due ends the session, and prints the byte due; else 00 or any other is played
     unfoldable pub commandStep : Step
     commandStep =
-        pick (not (eqb (refusalDue file at (s .held .set)) 0)) (endsAt (byteDue file at) (refusalDue file at (s .held .set)))
-        (pick (eqb (byteDue file at) 0) endCommand
+        cond (not (eqb (refusalDue file at (s .held .set)) 0)) (endsAt (byteDue file at) (refusalDue file at (s .held .set)))
+        (cond (eqb (byteDue file at) 0) endCommand
         (goingCommand (sizeDue file at (s .held .set))))
 
   -- the first play, at place 0, tests the length and the tag, and then plays the first command
   unfoldable pub step : List ℕ → Step
   step file =
-      pick (ltb 0 (s .place)) (commandStep file (s .place))
-      (pick (ltb 65536 (length file)) (endsBefore 1)
-      (pick (not (isTagged file)) (endsBefore 15)
+      cond (ltb 0 (s .place)) (commandStep file (s .place))
+      (cond (ltb 65536 (length file)) (endsBefore wrongLength)
+      (cond (not (isTagged file)) (endsBefore wrongTag)
       (commandStep file 4)))
 
 -- what a play answers: a row was written, with this number; the row buffer is at fault; the session has ended
@@ -129,7 +129,7 @@ pub data PlayAnswer : Type 0 where
 -- the document's number of an answer: a row prints its own, a row buffer of another length is refusal 1, and after the end there is none
 abbrev pub answerNumber : PlayAnswer → Option ℕ
 answerNumber (row n) = some n
-answerNumber fault = some 1
+answerNumber fault = some wrongLength
 answerNumber over = none
 
 pub record Outcome : Type 0 where
@@ -157,4 +157,4 @@ written s file buffer = record { session = step s file .session; answer = row (s
 
 -- one play, lent the file and a row buffer. A wrong row buffer is at fault ahead of all else
 unfoldable pub play : Session → List ℕ → List ℕ → Outcome
-play s file buffer = pick (not (isRight buffer)) (faulty s buffer) (pick (s .ended) (late s buffer) (written s file buffer))
+play s file buffer = cond (not (isRight buffer)) (faulty s buffer) (cond (s .ended) (late s buffer) (written s file buffer))

@@ -2,21 +2,23 @@
 -- the commands played before it and not from what the session holds.
 -- Assumes nothing.
 use mathlib.Core.Path.{_≡_}
-use mathlib.Core.Bool.{Bool, not, _&&_}
+use mathlib.Core.Bool.{Bool, not, _&&_, cond}
 use mathlib.Core.List.{List, [], _∷_, _++_, flatten}
 use mathlib.Core.Logic.{_↔_}
+use mathlib.Core.Option.{none}
 use Prim.Native.Nat.{ℕ, suc, _+_, _-_, _*_}
 use lib.Dec.{T, ltb, eqb}
 use lib.IntN.{ℤ}
 use lib.ListN.{length, getD, drop}
-use Rattle.algebra.specs.Choice.{pick}
 use Rattle.algebra.specs.All.{all}
 use Rattle.parameters.specs.declared.Params.{Params}
 use Rattle.parameters.specs.Sets.{setOf}
 use Rattle.encoding.specs.Bytes.{numbers}
 use Rattle.refusal.specs.declared.Signing.{Signing}
 use Rattle.refusal.specs.declared.Signing.the-variants as signing
-use Rattle.passign.specs.Hiding.{Call, ourLibrary, Made, Same, Each₃}
+use Rattle.refusal.specs.Numbers.{nonePasses}
+use Rattle.passign.specs.Hiding.{Call, ourLibrary, SigningRecord, Same, Each₃}
+use Rattle.session_rules.specs.Held.{Chosen, paramsOf}
 use Rattle.session_rules.specs.Commands.{maskOf, signatureRoom}
 use Rattle.session_rules.specs.Play.{Session, opened, step, PlayAnswer, row, fault, over, Outcome, play}
 
@@ -50,26 +52,27 @@ events file buffers = eventsFrom opened file buffers
 -- what follows the first space
 abbrev pub afterSpace : List ℕ → List ℕ
 afterSpace [] = []
-afterSpace (x ∷ xs) = pick (eqb x 32) xs (afterSpace xs)
+afterSpace (x ∷ xs) = cond (eqb x 32) xs (afterSpace xs)
 
 -- the value of an upper-case hex digit
 abbrev pub hexValue : ℕ → ℕ
-hexValue x = pick (ltb x 58) (x - 48) (x - 55)
+hexValue x = cond (ltb x 58) (x - 48) (x - 55)
 
 -- the bytes of hex digits up to the line feed
 abbrev pub unhex : List ℕ → List ℕ
 unhex [] = []
 unhex (x ∷ []) = []
-unhex (x ∷ y ∷ rest) = pick (eqb x 10) [] ((hexValue x * 16 + hexValue y) ∷ unhex rest)
+unhex (x ∷ y ∷ rest) = cond (eqb x 10) [] ((hexValue x * 16 + hexValue y) ∷ unhex rest)
 
 unfoldable pub printedSignature : List ℕ → List ℕ
 printedSignature buffer = unhex (afterSpace (afterSpace (afterSpace (afterSpace buffer))))
 
 -- ---- what a 06 signs with, read from the commands
 
--- the operands of the last accepted 01, 02, 03 and 05, and the masks of each accepted 04 since that 01 less those dropped
+-- the set of the last accepted 01 with its numbers, the operands of the last accepted 02, 03 and 05, and the masks of each accepted 04 since that 01 less
+-- those dropped
 pub record Material : Type 0 where
-  pub set : ℕ
+  pub set : Chosen
   pub exponents : List ℕ
   pub key : List ℕ
   pub message : List ℕ
@@ -77,7 +80,7 @@ pub record Material : Type 0 where
 
 -- before any command
 unfoldable pub noMaterial : Material
-noMaterial = record { set = 0; exponents = []; key = []; message = []; masks = [] }
+noMaterial = record { set = record { byte = 0; params = paramsOf none }; exponents = []; key = []; message = []; masks = [] }
 
 -- the number of masks passed over before the first that passes; all where none does
 abbrev pub passedOver : List (List ℤ) → Signing → ℕ
@@ -85,56 +88,78 @@ passedOver ys (signing.Signed i) = i
 passedOver ys (signing.Refused n) = length ys
 
 module _ (m : Material) where
-  abbrev pub paramsIn : Params
-  paramsIn = setOf (m .set)
+  -- one setter for each
+  abbrev pub readSet : Chosen → Material
+  readSet c = record { set = c; exponents = m .exponents; key = m .key; message = m .message; masks = m .masks }
 
-  -- with other masks
-  abbrev pub withMasksIn : List (List ℤ) → Material
-  withMasksIn ys = record { set = m .set; exponents = m .exponents; key = m .key; message = m .message; masks = ys }
+  abbrev pub readExponents : List ℕ → Material
+  readExponents js = record { set = m .set; exponents = js; key = m .key; message = m .message; masks = m .masks }
+
+  abbrev pub readKey : List ℕ → Material
+  readKey key = record { set = m .set; exponents = m .exponents; key = key; message = m .message; masks = m .masks }
+
+  abbrev pub readMessage : List ℕ → Material
+  readMessage message = record { set = m .set; exponents = m .exponents; key = m .key; message = message; masks = m .masks }
+
+  abbrev pub readMasks : List (List ℤ) → Material
+  readMasks ys = record { set = m .set; exponents = m .exponents; key = m .key; message = m .message; masks = ys }
+
+  abbrev pub paramsIn : Params
+  paramsIn = m .set .params
 
   -- the call of the library's signing that a 06 is, with the key in its encoding
   abbrev pub callWith : Call
   callWith =
-      record { key = m .set ∷ m .key; exponents = m .exponents; masks = flatten (m .masks); message = m .message; out = signatureRoom paramsIn }
+      record {
+        key = m .set .byte ∷ m .key;
+        exponents = m .exponents;
+        masks = flatten (m .masks);
+        message = m .message;
+        out = signatureRoom paramsIn;
+      }
 
   -- how many masks are passed over before the first that passes, and so its number
   unfoldable pub firstPassing : ℕ
   firstPassing = passedOver (m .masks) (ourLibrary .signs callWith)
 
   -- the signing of an accepted 06: the first mask that passes signs, and the bytes are those that its row at the front of the buffer prints
-  abbrev pub madeWith : List ℕ → Made
-  madeWith buffer = record { call = callWith; mask = firstPassing; bytes = printedSignature buffer }
+  abbrev pub signingWith : List ℕ → SigningRecord
+  signingWith buffer = record { call = callWith; mask = firstPassing; bytes = printedSignature buffer }
+
+-- the set of a set byte
+abbrev pub chosenBy : ℕ → Chosen
+chosenBy b = record { byte = b; params = setOf b }
 
 -- one more accepted command
 unfoldable pub withAccepted : Material → ℕ → List ℕ → Material
 withAccepted m b op =
-    pick (eqb b 1) (record { set = getD op 0 0; exponents = m .exponents; key = m .key; message = m .message; masks = [] })
-    (pick (eqb b 2) (record { set = m .set; exponents = numbers 2 (paramsIn m .t) op; key = m .key; message = m .message; masks = m .masks })
-    (pick (eqb b 3) (record { set = m .set; exponents = m .exponents; key = op; message = m .message; masks = m .masks })
-    (pick (eqb b 4) (withMasksIn m (m .masks ++ (maskOf (paramsIn m) op ∷ [])))
-    (pick (eqb b 5) (record { set = m .set; exponents = m .exponents; key = m .key; message = op; masks = m .masks })
-    (pick (eqb b 6) (withMasksIn m (drop (suc (firstPassing m)) (m .masks)))
+    cond (eqb b 0x01) (readMasks (readSet m (chosenBy (getD op 0 0))) [])
+    (cond (eqb b 0x02) (readExponents m (numbers 2 (paramsIn m .t) op))
+    (cond (eqb b 0x03) (readKey m op)
+    (cond (eqb b 0x04) (readMasks m (m .masks ++ (maskOf (paramsIn m) op ∷ [])))
+    (cond (eqb b 0x05) (readMessage m op)
+    (cond (eqb b 0x06) (readMasks m (drop (suc (firstPassing m)) (m .masks)))
     m)))))
 
 -- one more command: accepted; refused with 9, which only a 06 is, and which drops all masks; refused otherwise
 unfoldable pub withCommand : Material → Event → Material
 withCommand m e =
-    pick (eqb (e .number) 0) (withAccepted m (e .byte) (e .operand))
-    (pick (eqb (e .number) 9) (withMasksIn m []) m)
+    cond (eqb (e .number) 0) (withAccepted m (e .byte) (e .operand))
+    (cond (eqb (e .number) nonePasses) (readMasks m []) m)
 
 -- an accepted 06
 abbrev pub isSigning : Event → Bool
 isSigning e = eqb (e .byte) 6 && eqb (e .number) 0
 
 -- the accepted 06 commands in order, each as a signing that was made with its material
-unfoldable pub signingsFrom : Material → List Event → List Made
+unfoldable pub signingsFrom : Material → List Event → List SigningRecord
 signingsFrom m [] = []
-signingsFrom m (e ∷ es) = pick (isSigning e) (madeWith m (e .buffer) ∷ []) [] ++ signingsFrom (withCommand m e) es
+signingsFrom m (e ∷ es) = cond (isSigning e) (signingWith m (e .buffer) ∷ []) [] ++ signingsFrom (withCommand m e) es
 
-unfoldable pub signings : List Event → List Made
+unfoldable pub signings : List Event → List SigningRecord
 signings es = signingsFrom noMaterial es
 
--- demand 3 of commands that were played is `Hides ourLibrary (signings es)`. "A list of plays with no accepted 06 has the empty list of masks": there is no
+-- demand 3 of commands that were played is `Hidden ourLibrary (signings es)`. "A list of plays with no accepted 06 has the empty list of masks": there is no
 -- signing, and no other list of masks does
 abbrev pub NoneSigned : List Event → Type 0
 NoneSigned es =

@@ -1,12 +1,12 @@
 -- Document 01, "Refusals, by who can cause them": what a play that writes a row leaves and changes, and what one without a row leaves.
 -- Assumes nothing.
 use mathlib.Core.Path.{_≡_}
-use mathlib.Core.Bool.{Bool, false, _||_, _&&_}
+use mathlib.Core.Bool.{Bool, false, _||_, _&&_, cond}
 use mathlib.Core.List.{List, [], _++_}
 use Prim.Native.Nat.{ℕ, _+_, _≤_, _<_}
 use lib.Dec.{leb, eqb}
 use lib.ListN.{length, drop}
-use Rattle.algebra.specs.Choice.{pick}
+use Rattle.refusal.specs.Numbers.{nonePasses}
 use Rattle.session_rules.specs.Held.{withMasks}
 use Rattle.session_rules.specs.Commands.{nothing}
 use Rattle.session_rules.specs.Play.{Session, step, Outcome, rowOf}
@@ -23,9 +23,9 @@ pub record RowWritten (s : Session) (file buffer : List ℕ) (n : ℕ) (o : Outc
   -- drops all masks
   pub rest : (n ≡ 0 → ⊥) → o .session ≡ record {
     ended = isEnding n;
-    place = pick (isEnding n) (s .place) (o .session .place);
-    rows = pick (isEnding n) (s .rows) (s .rows + 1);
-    held = pick (eqb n 9) (withMasks [] (s .held)) (s .held);
+    place = cond (isEnding n) (s .place) (o .session .place);
+    rows = cond (isEnding n) (s .rows) (s .rows + 1);
+    held = cond (eqb n nonePasses) (withMasks (s .held) []) (s .held);
   }
   -- a row that does not end the session moves the place forward, past a command that lies in the file
   pub forward : o .session .ended ≡ false → (s .place < o .session .place) × (o .session .place ≤ length file)

@@ -1,5 +1,1 @@
-pub mod MaskList
 pub mod State
-pub mod Room
-pub mod InFront
-pub mod Needing

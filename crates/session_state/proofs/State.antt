@@ -1,29 +1,49 @@
 -- What the meaning of the state says of its parts.
 -- Assumes nothing.
-use mathlib.Core.Path.{_≡_}
-use Prim.Native.Nat.{ℕ, _<_}
+use mathlib.Core.Path.{_≡_, refl, sym, _∙_}
+use mathlib.Core.Bool.{Bool, true, false, not, cond}
+use mathlib.Core.List.{List}
+use Prim.Native.Nat.{ℕ, _*_, _≤_, _<_}
+use native.Mathlib.Nat.{mul-le-mul}
 use native.Mathlib.Omega.{arith}
 use lib.Dec.{ltb}
-use borrow.Author.Tests.{lt-ltb, le-ltb, ltb-true, ltb-false}
-use Rattle.algebra.proofs.Test.{by-test}
-use Rattle.parameters.specs.Sets.{isSet, setOf}
-use Rattle.session_rules.specs.Play.{lacksSet}
-use Rattle.session_state.specs.declared.Held as state
-use Rattle.session_state.specs.State.{setHeld, heldIn, heldOf}
+use lib.IntN.{ℤ}
+use lib.ListN.{getD}
+use lib.ListN.{List·getD-eq-default}
+use borrow.Author.Tests.{lt-ltb, ltb-false}
+use Rattle.algebra.proofs.Test.{by-test, cond-by}
+use Rattle.parameters.specs.declared.Params.{Params}
+use Rattle.parameters.specs.Sets.{row, isSet, sets, setOf}
+use Rattle.session_rules.specs.Held.{isHeld, paramsOf}
+use Rattle.session_state.specs.declared.Flags.{Flags}
+use Rattle.session_state.specs.State.{whenHeld, atMostEight, setHeld, heldIn, heldOf}
 
--- the set in force is the one that the byte means
-pub heldOf-set : (h : state.Held) → heldOf h .set ≡ setHeld (h .set)
-unfolding heldOf heldIn
-heldOf-set h = by-test (isSet (h .set)) (λ e. rw e) (λ e. rw e)
+-- a thing is held as its flag says
+pub is-held : {A : Type 0} (b : Bool) (a : A) → isHeld (whenHeld b a) ≡ b
+is-held true a = refl
+is-held false a = refl
 
--- a byte means no set where it is above 4
-pub lacks-set : (set : ℕ) → lacksSet (setHeld set) ≡ ltb 4 set
-lacks-set set =
-    by-test (ltb set 5)
-    (λ e. rw (e, le-ltb 4 set (omega (arith, ltb-true set 5 e))))
-    (λ e. rw (e, lt-ltb 4 set (omega (arith, ltb-false set 5 e))))
+-- the numbers in force are those of the set byte, all 0 where it is no set
+pub params-held : (set : ℕ) → paramsOf (setHeld set) ≡ setOf set
+unfolding setOf sets
+params-held set =
+    by-test (ltb set 5) (λ e. rw e) (λ e. rw e (sym (List·getD-eq-default sets (row 0 0 0 0 0 0) (ltb-false set 5 e))))
 
--- in a set, what is held is what is held in it
-pub heldOf-in : (h : state.Held) → h .set < 5 → heldOf h ≡ heldIn (setOf (h .set)) h
-unfolding heldOf
-heldOf-in h e = rw (lt-ltb (h .set) 5 e)
+-- eight masks or fewer are what the count says
+pub few : (count : ℕ) → count ≤ 8 → atMostEight count ≡ count
+few count h = cond-by (λ (k : ℕ). k ≡ count) (ltb count 8) (λ e. refl) (λ e. omega (arith, ltb-false count 8 e))
+
+-- there is room for them
+pub room : (count n : ℕ) → count ≤ 8 → n ≤ 1153 → count * n ≤ 9224
+room count n h k = mul-le-mul h k
+
+module _ (flags : Flags) (e k v : List ℕ) (m : List ℤ) (t : List ℕ) where
+  -- the set in force is the one that the byte means
+  pub heldOf-set : heldOf flags e k v m t .set ≡ setHeld (flags .set)
+  unfolding heldOf heldIn
+  heldOf-set = by-test (isSet (flags .set)) (λ z. rw z) (λ z. rw z)
+
+  -- in a set, what is held is what is held in it
+  pub heldOf-in : {p : Params} → p ≡ setOf (flags .set) → flags .set < 5 → heldOf flags e k v m t ≡ heldIn p flags e k v m t
+  unfolding heldOf
+  heldOf-in is h = rw (lt-ltb (flags .set) 5 h, is)

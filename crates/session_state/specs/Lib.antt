@@ -1,2 +1,3 @@
+pub mod Room
 pub mod State
-pub mod Ran
+pub mod Result

@@ -1,129 +1,72 @@
-// What a session holds, as arrays with flags, and its parts made anew. The fields are open here; crate `session` hides them.
+// What a session holds: flags and numbers by value, and five lists in arrays beside them, which functions are lent as slices. Crate `session` hides both.
 ghost use mathlib.Core.Path.{_≡_};
-ghost use mathlib.Core.Bool.{false};
-ghost use Rattle.parameters.specs.Sound.{Fitting};
-ghost use Rattle.session_rules.specs.Held.{onlySet};
-ghost use Rattle.session_state.specs.State.{setHeld, hasExponents, heldOf};
-use encoding::public_key::are_exponents;
+ghost use Prim.Native.Nat.{_≤_};
+ghost use lib.ListN.{length};
+ghost use Rattle.session_state.specs.State.{atMostEight, hasExponents, hasEvaluations};
+use encoding::numbers::are_below;
+use encoding::numbers::are_exponents;
 use parameters::Params;
 
-pub mod bytes;
-pub mod mask_list;
+// The numbers of all masks that may be held, the bytes of a message, and room for the bytes of a signature, as specs/Room.antt gives them.
+pub const MASK_ROOM: usize = 9224;
 
-// The points, t of them in front.
-pub struct Exponents {
-    pub held: bool,
-    pub list: [u16; 1152],
-}
+pub const MESSAGE_SIZE: usize = 64;
 
-// The key's N bytes, in front.
-pub struct Key {
-    pub held: bool,
-    pub bytes: [u8; 1153],
-}
+pub const MAX_SIGNATURE: usize = 2435;
 
-// The public evaluations, t of them in front.
-pub struct Evaluations {
-    pub held: bool,
-    pub list: [u32; 1152],
-}
-
-// The masks one after the other, N numbers each, in front.
-pub struct Masks {
-    pub count: usize,
-    pub numbers: [i16; 9224],
-}
-
-pub struct Message {
-    pub held: bool,
-    pub bytes: [u8; 64],
-}
-
-// What a session holds. A set above 4 is none, and without a set nothing is held.
-pub struct Held {
+// Whether the session has ended, its place in the file and its row count; the set byte, which things are held, and how many masks.
+pub struct Flags {
+    pub ended: bool,
+    pub place: usize,
+    pub rows: usize,
     pub set: u8,
-    pub exponents: Exponents,
-    pub key: Key,
-    pub evaluations: Evaluations,
-    pub masks: Masks,
-    pub message: Message,
+    pub exponents: bool,
+    pub key: bool,
+    pub evaluations: bool,
+    pub message: bool,
+    pub count: usize,
 }
 
-// What a command did: its number, 0 or the refusal, and what is held after it.
-pub struct Done {
+// What an accepted command adds to its row; the lists stand in the arrays beside it, in front: so many evaluations; the number of masks passed over
+// and so many bytes of a signature; a verdict, 1 or 0.
+pub enum Added {
+    Nothing,
+    Values(usize),
+    Signed(u8, usize),
+    Judged(u8),
+}
+
+// What a command gives: its number, 0 or the refusal, the flags after it, and what its row adds.
+pub struct CommandResult {
     pub number: u32,
-    pub held: Held,
+    pub flags: Flags,
+    pub added: Added,
 }
 
-fn no_exponents() -> Exponents
-    ensures { λ r. ⌜ r .held ≡ false ⌝ }
+// How many masks a count means.
+pub fn at_most_eight(count: usize) -> usize
+    ensures value { λ r. ⌜ r ≡ atMostEight count ⌝ }
+    ensures small { λ r. ⌜ r ≤ 8 ⌝ }
 {
-    Exponents {
-        held: false,
-        list: [0u16; 1152],
-    }
-}
-
-pub fn no_key() -> Key
-    ensures { λ r. ⌜ r .held ≡ false ⌝ }
-{
-    Key {
-        held: false,
-        bytes: [0u8; 1153],
-    }
-}
-
-pub fn no_evaluations() -> Evaluations
-    ensures { λ r. ⌜ r .held ≡ false ⌝ }
-{
-    Evaluations {
-        held: false,
-        list: [0u32; 1152],
-    }
-}
-
-pub fn no_masks() -> Masks
-    ensures { λ r. ⌜ r .count ≡ 0 ⌝ }
-{
-    Masks {
-        count: 0,
-        numbers: [0i16; 9224],
-    }
-}
-
-fn no_message() -> Message
-    ensures { λ r. ⌜ r .held ≡ false ⌝ }
-{
-    Message {
-        held: false,
-        bytes: [0u8; 64],
-    }
-}
-
-// Nothing but a set, or nothing at all where the number is none.
-pub fn only_set(set: u8) -> Held
-    ensures { λ r. ⌜ heldOf r ≡ onlySet (setHeld set) ⌝ }
-{
-    Held {
-        set: set,
-        exponents: no_exponents(),
-        key: no_key(),
-        evaluations: no_evaluations(),
-        masks: no_masks(),
-        message: no_message(),
-    }
+    if count < 8 { count } else { 8 }
 }
 
 // Whether points are held that are points of the set. They are tested anew, so that no state can lend the evaluator a number that is no exponent.
-pub fn has_exponents(p: Params, exponents: Exponents) -> bool
-    requires { ⌜ Fitting p ⌝ }
-    ensures { λ r. ⌜ r ≡ hasExponents p exponents ⌝ }
+pub fn has_exponents(p: Params, held: bool, exponents: &[u16]) -> bool
+    requires { ⌜ p .t ≤ length (now exponents) ⌝ }
+    ensures { λ r. ⌜ r ≡ hasExponents p held (now (exponents .entry)) ⌝ }
 {
-    if exponents.held {
-        let n = p.n;
-        let t = p.t;
-        let list = exponents.list;
-        return are_exponents(&list[..t], n);
-    }
-    false
+    let n = p.n;
+    let t = p.t;
+    held & are_exponents(&exponents[..t], n)
+}
+
+// Whether public evaluations are held, each below q: so what is held is what a public key's bytes mean.
+pub fn has_evaluations(p: Params, held: bool, evaluations: &[u32]) -> bool
+    requires { ⌜ p .t ≤ length (now evaluations) ⌝ }
+    ensures { λ r. ⌜ r ≡ hasEvaluations p held (now (evaluations .entry)) ⌝ }
+{
+    let q = p.q;
+    let t = p.t;
+    held & are_below(&evaluations[..t], q)
 }

@@ -2,7 +2,7 @@
 -- Assumes nothing.
 use mathlib.Core.Path.{_≡_, refl, sym, ap, ap₂, _∙_}
 use mathlib.Core.List.{List, _++_, append-assoc}
-use Prim.Native.Nat.{ℕ, zero, suc, _+_, _-_, _*_, _/_, _≤_}
+use Prim.Native.Nat.{ℕ, zero, suc, _+_, _*_, _/_, _≤_}
 use native.Mathlib.Nat.{add-zero, add-suc, mul-add}
 use native.Mathlib.Omega.{arith}
 use lib.ListN.{length, take, drop, length-append, length-drop, take-append-drop, drop-of-length-le}
@@ -64,18 +64,16 @@ hash-block h b q e =
     ∙ ap₂ hashValue (hash-one h b e) (ap (λ (r : List ℕ). r ++ q) (drop-of-length-le b {i = 128 * (length b / 128)} (omega arith)))
 
 -- a block made of t and the front of b
-pub hash-joined : (h t b e x v : List ℕ) (k : ℕ) → length x ≡ 128 → x ≡ t ++ take k b → v ≡ compress h x → hashValue v (drop k b ++ e) ≡ hashValue h (t ++ b ++ e)
+pub hash-joined : (h t b e x v : List ℕ) (k : ℕ) → length x ≡ 128 → x ≡ t ++ take k b → v ≡ compress h x
+    → hashValue v (drop k b ++ e) ≡ hashValue h (t ++ b ++ e)
 hash-joined h t b e x v k l f g =
     ap (λ (w : List ℕ). hashValue w (drop k b ++ e)) g
     ∙ sym (hash-block h x (drop k b ++ e) l)
     ∙ ap (hashValue h)
     (sym (append-assoc x (drop k b) e)
-    ∙ ap (λ (y : List ℕ). y ++ e) (ap (λ (y : List ℕ). y ++ drop k b) f ∙ append-assoc t (take k b) (drop k b) ∙ ap (λ (y : List ℕ). t ++ y) (take-append-drop k b)))
+    ∙ ap (λ (y : List ℕ). y ++ e)
+    (ap (λ (y : List ℕ). y ++ drop k b) f ∙ append-assoc t (take k b) (drop k b) ∙ ap (λ (y : List ℕ). t ++ y) (take-append-drop k b)))
 
 -- the whole blocks of a, then what they leave with b and e
 pub hash-two : (h a b e : List ℕ) → hashValue h (a ++ b ++ e) ≡ hashValue (hashValue h a) (leftOver a ++ b ++ e)
 hash-two h a b e = rw (append-assoc a b e, append-assoc (leftOver a) b e) (hash-append h a (b ++ e))
-
--- a part of a list up to its end
-pub part-to-end : (k : ℕ) (p : List ℕ) → take (length p - k) (drop k p) ≡ drop k p
-part-to-end k p = take-all (length p - k) (drop k p) (omega (arith, length-drop k p))

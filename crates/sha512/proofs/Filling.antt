@@ -4,19 +4,13 @@ use mathlib.Core.Path.{_≡_, refl, sym, ap, ap₂, _∙_}
 use mathlib.Core.List.{List, [], _∷_, _++_, append-assoc, append-nil}
 use Prim.Native.Nat.{ℕ, _+_, _-_, _*_, _/_, _%_, _^_, _≤_, _<_}
 use native.Mathlib.Nat.{zero-add}
-use native.Mathlib.Numerals.{add-one}
 use native.Mathlib.Omega.{arith}
-use lib.ListN.{length, getD, take, drop, set, replicate, length-append, length-replicate, replicate-append-replicate, drop-of-length-le}
-use lib.Seq.{paste, paste-suc, sets-eq, length-sets, length-take-le, take-append-seam, drop-append-add, drop-drop, take-at, drop-at}
+use lib.ListN.{length, take, drop, replicate, length-append, length-replicate, replicate-append-replicate, drop-of-length-le}
+use lib.Seq.{sets-eq, length-sets, length-take-le, take-append-seam, drop-append-add, drop-drop, take-at, drop-at}
 use Rattle.sha512.specs.Bytes.{bytes8, bytes16, written}
 use Rattle.sha512.specs.Padding.{zeros, ending}
 
 -- ---- bytes written into a list
-
--- a turn of the loop that copies s
-pub copy-step : (d : List ℕ) (i : ℕ) (s : List ℕ) (j : ℕ) {o : List ℕ} → i + j < length d → j < length s → o ≡ paste d i s j
-    → set o (i + j) (getD s j 0) ≡ paste d i s (j + 1)
-copy-step d i s j h k e = rw (e, add-one) (paste-suc d i s j 0 h k)
 
 module _ (d : List ℕ) (i : ℕ) (s : List ℕ) (fits : i + length s ≤ length d) where
   length-written : length (written d i s) ≡ length d

@@ -1,5 +1,4 @@
-pub mod Loops
 pub mod Filling
 pub mod Chain
-pub mod Digest
+pub mod DigestBytes
 pub mod Roots

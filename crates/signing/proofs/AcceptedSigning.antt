@@ -14,13 +14,13 @@ use Rattle.polynomial.specs.Evaluation.{evaluations}
 use Rattle.encoding.specs.Encoding.{keyOf}
 use Rattle.scheme.specs.Scheme.{Drawer, Signed, signing}
 use Rattle.scheme.specs.FirstPassing.{FirstPassing}
-use Rattle.scheme.proofs.Attempt.{Passes, attempt-iff}
+use Rattle.scheme.proofs.Attempt.{PassingMask, attempt-iff}
 use Rattle.scheme.proofs.FirstPassing.{first-passing}
 use Rattle.signing.specs.Signer.{offeredCount, masksOf, maskAt, signatureOf, signedBy}
 use Rattle.signing.proofs.OfferedMasks.{masks-count, mask-at}
 use Rattle.refusal.specs.declared.Signing.the-variants as answer
 use Rattle.refusal.specs.Answer.{setByte}
-use Rattle.signing.specs.Sign.{signRefusalIn, signedAnswer, signAnswerIn, signWrittenIn}
+use Rattle.signing.specs.Sign.{signRefusalIn, signedAnswer, signingAfter, signAnswerIn, signWrittenIn}
 use Rattle.refusal.proofs.Apart.{refused-not-signed}
 use Rattle.refusal.proofs.Refusal.{chosen, equal-iff}
 use Rattle.signing.proofs.Allowed.{SignAllowed, sign-allowed}
@@ -29,6 +29,11 @@ use Rattle.encoding.proofs.EncodedKey.{key-size}
 signed-by : (o : Option Signed) {i : ℕ} → signedAnswer o ≡ answer.Signed i → (r : Signed) × ((o ≡ some r) × (r .passedOver ≡ i))
 signed-by none e = absurd (refused-not-signed e)
 signed-by (some r) e = (r, (refl, cc))
+
+-- whatever is accepted is not refused, and the masks sign
+pub accepted : (refusal : ℕ) (o : Option Signed) {i : ℕ} → signingAfter refusal o ≡ answer.Signed i
+    → (refusal ≡ 0) × ((r : Signed) × ((o ≡ some r) × (r .passedOver ≡ i)))
+accepted refusal o e = let h = chosen (eqb refusal 0) refused-not-signed Iff·rfl .0 e in (equal-iff .0 (h .0), signed-by o (h .1))
 
 module _ (draw : Drawer) (p : Params) (key exponents : List ℕ) (masks : List ℤ) (message out : List ℕ) where
   -- no test refuses, and the masks give the signing r, by mask number i
@@ -41,9 +46,9 @@ module _ (draw : Drawer) (p : Params) (key exponents : List ℕ) (masks : List �
   pub accepted-signing : {i : ℕ} → signAnswerIn draw p key exponents masks message out ≡ answer.Signed i → (r : Signed) × SignedAs r i
   unfolding signAnswerIn
   accepted-signing e =
-      let h = chosen (eqb (signRefusalIn p key exponents masks (length out)) 0) refused-not-signed Iff·rfl .0 e in
-      let w = signed-by (signedBy draw p (keyOf key) exponents masks message) (h .1) in
-      (w .0, record { allowed = equal-iff .0 (h .0); signs = w .1 .0; place = w .1 .1 })
+      let signed = signedBy draw p (keyOf key) exponents masks message in
+      let (allowed, (r, (signs, place))) = accepted (signRefusalIn p key exponents masks (length out)) signed e in
+      (r, record { allowed = allowed; signs = signs; place = place })
 
 module _ {draw : Drawer} {p : Params} {key exponents : List ℕ} {masks : List ℤ} {message out : List ℕ} {r : Signed} {i : ℕ}
     (a : SignedAs draw p key exponents masks message out r i) where
@@ -77,7 +82,7 @@ module _ {draw : Drawer} {p : Params} {key exponents : List ℕ} {masks : List �
   mask-of : getD (masksOf p masks) (r .passedOver) [] ≡ maskAt p masks i
   mask-of = ap (λ (j : ℕ). getD (masksOf p masks) j []) (a .place) ∙ mask-at p masks i offered
 
-  pub passes-of : Passes p (keyOf key) (maskAt p masks i) (draw p (evaluations p (maskAt p masks i) exponents) message) (r .signature)
+  pub passes-of : PassingMask p (keyOf key) (maskAt p masks i) (draw p (evaluations p (maskAt p masks i) exponents) message) (r .signature)
   passes-of =
       let y = getD (masksOf p masks) (r .passedOver) [] in
       rw mask-of at (attempt-iff draw p exponents message (keyOf key) y (r .signature) .0 (first-of .passes))

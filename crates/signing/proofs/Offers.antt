@@ -1,7 +1,7 @@
 -- The masks offered in turn: what signing gives from mask i on, and what one mask more decides.
 -- Assumes nothing.
 use mathlib.Core.Path.{_≡_, refl, sym, ap, ap₂, _∙_}
-use mathlib.Core.Bool.{true, false}
+use mathlib.Core.Bool.{Bool, true, false}
 use mathlib.Core.List.{List, _∷_}
 use mathlib.Core.Option.{Option, none, some}
 use Prim.Native.Nat.{ℕ, suc, _+_, _-_, _*_, _<_, _≤_}
@@ -15,25 +15,18 @@ use Rattle.parameters.specs.declared.Params.{Params}
 use Rattle.polynomial.specs.Evaluation.{evaluations}
 use Rattle.encoding.specs.Bytes.{parts}
 use Rattle.scheme.specs.Scheme.{Drawer, Signature, Signed, orElse, attempt, signing}
-use Rattle.signing.specs.Signer.{offeredCount, maskAt, signedBy, passedOverIn, signedBytes, attemptBytes, passes}
+use Rattle.signing.specs.Signer.{offeredCount, maskAt, signedBy, Offered, Attempted}
 
--- one mask, where i were passed over before it and those after it give `rest`
-module _ (i : ℕ) (w : List ℕ) (rest : Option Signed) where
-  passed-over : (o : Option Signature) (count : ℕ) → passes o ≡ true → passedOverIn count (orElse i w o rest) ≡ i
-  passed-over none count e = let z : _≡_ {A = ℕ} 0 1 = cc in absurd (omega arith)
-  passed-over (some s) count e = refl
+-- one mask, where i were passed over before it and those after it give `rest`: it signs, or they do
+module _ (i : ℕ) (w : List ℕ) (rest : Option Signed) {s : ℕ} {before after : List ℕ} where
+  passing : (o : Option Signature) {passed : Bool} (count : ℕ) → Attempted s o before passed after → passed ≡ true
+      → Offered s count (orElse i w o rest) before i after
+  passing none count t e = let z : _≡_ {A = ℕ} 0 1 = cc in absurd (omega arith)
+  passing (some r) count t e = record { answer = refl; bytes = t .bytes }
 
-  passing-bytes : (o : Option Signature) (set : ℕ) (out : List ℕ) → passes o ≡ true → signedBytes set (orElse i w o rest) out ≡ attemptBytes set o out
-  passing-bytes none set out e = let z : _≡_ {A = ℕ} 0 1 = cc in absurd (omega arith)
-  passing-bytes (some s) set out e = refl
-
-  failing : (o : Option Signature) → passes o ≡ false → orElse i w o rest ≡ rest
-  failing none e = refl
-  failing (some s) e = let z : _≡_ {A = ℕ} 0 1 = cc in absurd (omega arith)
-
-pub failing-bytes : (o : Option Signature) (set : ℕ) (out : List ℕ) → passes o ≡ false → attemptBytes set o out ≡ out
-failing-bytes none set out e = refl
-failing-bytes (some s) set out e = let z : _≡_ {A = ℕ} 0 1 = cc in absurd (omega arith)
+  failing : (o : Option Signature) {passed : Bool} → Attempted s o before passed after → passed ≡ false → (orElse i w o rest ≡ rest) × (after ≡ before)
+  failing none t e = (refl, t .bytes)
+  failing (some r) t e = let z : _≡_ {A = ℕ} 0 1 = cc in absurd (omega arith)
 
 -- the parts from number i on, and the first of them apart
 module _ {A : Type 0} (size count : ℕ) (l : List A) where
@@ -60,32 +53,35 @@ module _ (draw : Drawer) (p : Params) (f : List ℤ) (exponents : List ℕ) (mas
   unfolding signedBy
   signed-all = ap (signing draw p exponents message 0 f) (sym (parts-all (p .n) (offeredCount p masks) masks))
 
-  pub signed-none : (i : ℕ) → offeredCount p masks ≤ i → signedFrom i ≡ none
-  signed-none i h =
-      let e : offeredCount p masks - i ≡ 0 = omega arith in
-      ap (λ (n : ℕ). signing draw p exponents message i f (parts (p .n) n (drop (i * p .n) masks))) e
-
   -- what mask number i gives
   abbrev pub offer : ℕ → Option Signature
   offer i = attempt draw p exponents message f (maskAt p masks i)
 
-  -- it signs, or the masks after it do
+  -- all masks were passed over before number i, and the buffer is as it was
+  pub none-offered : {s : ℕ} {before out : List ℕ} (i : ℕ) → offeredCount p masks ≤ i → signedBy draw p f exponents masks message ≡ signedFrom i → out ≡ before
+      → Offered s (offeredCount p masks) (signedBy draw p f exponents masks message) before (offeredCount p masks) out
+  none-offered i h e g =
+      let none-left : offeredCount p masks - i ≡ 0 = omega arith in
+      let none-signs = e ∙ ap (λ (n : ℕ). signing draw p exponents message i f (parts (p .n) n (drop (i * p .n) masks))) none-left in
+      rw none-signs (record { answer = refl; bytes = g })
+
+  -- mask number i is tried
   module _ (i : ℕ) (h : i < offeredCount p masks) (e : signedBy draw p f exponents masks message ≡ signedFrom i) where
-    offered : signedBy draw p f exponents masks message ≡ orElse i (evaluations p (maskAt p masks i) exponents) (offer i) (signedFrom (i + 1))
+    -- the commitment of the mask, and what the masks after it give
+    abbrev w : List ℕ
+    w = evaluations p (maskAt p masks i) exponents
+
+    abbrev later : Option Signed
+    later = signedFrom (i + 1)
+
+    offered : signedBy draw p f exponents masks message ≡ orElse i w (offer i) later
     offered =
         e ∙ ap (signing draw p exponents message i f) (parts-next (p .n) (offeredCount p masks) masks i h)
-        ∙ ap (λ (n : ℕ). orElse i (evaluations p (maskAt p masks i) exponents) (offer i) (signing draw p exponents message n f (partsFrom (p .n) (offeredCount p masks) masks (i + 1)))) (sym (add-one i))
+        ∙ ap (λ (n : ℕ). orElse i w (offer i) (signing draw p exponents message n f (partsFrom (p .n) (offeredCount p masks) masks (i + 1)))) (sym (add-one i))
 
-    pub signed-here : passes (offer i) ≡ true → passedOverIn (offeredCount p masks) (signedBy draw p f exponents masks message) ≡ i
-    signed-here t =
-        ap (passedOverIn (offeredCount p masks)) offered
-        ∙ passed-over i (evaluations p (maskAt p masks i) exponents) (signedFrom (i + 1)) (offer i) (offeredCount p masks) t
+    module _ {s : ℕ} {before out after : List ℕ} {passed : Bool} (g : out ≡ before) (t : Attempted s (offer i) out passed after) where
+      pub passed-here : passed ≡ true → Offered s (offeredCount p masks) (signedBy draw p f exponents masks message) before i after
+      passed-here u = rw (offered, ← g) (passing i w later (offer i) (offeredCount p masks) t u)
 
-    pub bytes-here : (set : ℕ) (out : List ℕ) → passes (offer i) ≡ true
-        → signedBytes set (signedBy draw p f exponents masks message) out ≡ attemptBytes set (offer i) out
-    bytes-here set out t =
-        ap (λ (r : Option Signed). signedBytes set r out) offered
-        ∙ passing-bytes i (evaluations p (maskAt p masks i) exponents) (signedFrom (i + 1)) (offer i) set out t
-
-    pub signed-later : passes (offer i) ≡ false → signedBy draw p f exponents masks message ≡ signedFrom (i + 1)
-    signed-later t = offered ∙ failing i (evaluations p (maskAt p masks i) exponents) (signedFrom (i + 1)) (offer i) t
+      pub failed-here : passed ≡ false → (signedBy draw p f exponents masks message ≡ signedFrom (i + 1)) × (after ≡ before)
+      failed-here u = let (rest, same) = failing i w later (offer i) t u in (offered ∙ rest, same ∙ g)

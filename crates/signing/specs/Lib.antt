@@ -1,2 +1,3 @@
-pub mod Sign
 pub mod Signer
+pub mod Sign
+pub mod Asks

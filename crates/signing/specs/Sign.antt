@@ -1,69 +1,77 @@
 -- The entry `sign`: refusals 1 (message, empty key), 2, 1 (other lengths), 4, 5, 6, then the first mask that passes signs, or 9.
 -- Over any parameter set and any way to draw; the entry itself draws by the document's rule in the set of the key's first byte.
 -- Assumes nothing.
-use mathlib.Core.Bool.{Bool, not, _&&_}
+use mathlib.Core.Bool.{Bool, not, _&&_, cond}
 use mathlib.Core.List.{List}
 use mathlib.Core.Option.{Option, none, some}
 use Prim.Native.Nat.{ℕ, _*_, _%_}
 use lib.Dec.{leb, eqb}
 use lib.IntN.{ℤ}
 use lib.ListN.{length}
-use Rattle.algebra.specs.Choice.{pick}
 use Rattle.algebra.specs.Integer.{within}
 use Rattle.parameters.specs.declared.Params.{Params}
-use Rattle.parameters.specs.Sets.{isSet, setOf}
+use Rattle.parameters.specs.Limits.{maxMasks}
 use Rattle.challenge.specs.Draw.{drawChallenge}
 use Rattle.encoding.specs.Encoding.{secretKeySize, signatureSize, areExponents, isKey, keyOf}
 use Rattle.scheme.specs.Scheme.{Drawer, Signed}
 use Rattle.signing.specs.Signer.{signedBy, signedBytes}
 use Rattle.refusal.specs.declared.Signing.{Signing}
 use Rattle.refusal.specs.declared.Signing.the-variants as answer
-use Rattle.refusal.specs.Answer.{setByte, isLong}
+use Rattle.refusal.specs.Answer.{setByte, setIn, isLong, inSetOf, unlessRefused}
+use Rattle.refusal.specs.Numbers.{wrongLength, wrongExponents, wrongKey, wrongMask, nonePasses}
 
--- masks one after the other, N numbers each, at most eight
+-- ---- what refuses a signing before its masks are tried
+
+-- so many numbers are masks one after the other, N numbers each, at most eight
+abbrev pub areWhole : Params → ℕ → Bool
+areWhole p count = eqb (count % p .n) 0 && leb count (maxMasks * p .n)
+
 abbrev pub areMasks : Params → List ℤ → Bool
-areMasks p masks = eqb (length masks % p .n) 0 && leb (length masks) (8 * p .n)
+areMasks p masks = areWhole p (length masks)
 
--- the lengths, then 4, 5, 6: all masks are tested before any is tried
+-- the lengths of the set: of the key, the exponents, all masks, and the room for the signature
+abbrev pub signLengths : Params → ℕ → ℕ → ℕ → ℕ → Bool
+signLengths p key exponents masks room = eqb key (secretKeySize p) && (eqb exponents (p .t) && (areWhole p masks && eqb room (signatureSize p)))
+
+-- the set's own tests: all masks are tested before any is tried
 unfoldable pub signRefusalIn : Params → List ℕ → List ℕ → List ℤ → ℕ → ℕ
 signRefusalIn p key exponents masks room =
-    pick (not (eqb (length key) (secretKeySize p))) 1
-    (pick (not (eqb (length exponents) (p .t))) 1
-    (pick (not (areMasks p masks)) 1
-    (pick (not (eqb room (signatureSize p))) 1
-    (pick (not (areExponents p exponents)) 4
-    (pick (not (isKey key)) 5
-    (pick (not (within (p .k) masks)) 6 0))))))
+    cond (not (signLengths p (length key) (length exponents) (length masks) room)) wrongLength
+    (cond (not (areExponents p exponents)) wrongExponents
+    (cond (not (isKey key)) wrongKey
+    (cond (not (within (p .k) masks)) wrongMask 0)))
 
--- the answer of a signing; 9 where there is no mask or none passes
+-- those of the entry
+unfoldable pub signRefusal : List ℕ → List ℕ → List ℤ → List ℕ → List ℕ → ℕ
+signRefusal key exponents masks message out =
+    cond (isLong message) wrongLength (inSetOf key (λ (p : Params). signRefusalIn p key exponents masks (length out)))
+
+-- ---- what is answered and written, by the refusal number and by what the masks give
+
+-- the answer where nothing refuses; 9 where there is no mask or none passes
 abbrev pub signedAnswer : Option Signed → Signing
-signedAnswer none = answer.Refused 9
+signedAnswer none = answer.Refused nonePasses
 signedAnswer (some r) = answer.Signed (r .passedOver)
+
+abbrev pub signingAfter : ℕ → Option Signed → Signing
+signingAfter refusal signed = cond (eqb refusal 0) (signedAnswer signed) (answer.Refused refusal)
+
+abbrev pub writtenAfter : ℕ → ℕ → Option Signed → List ℕ → List ℕ
+writtenAfter refusal s signed out = unlessRefused refusal (signedBytes s signed out) out
 
 module _ (draw : Drawer) (p : Params) (key exponents : List ℕ) (masks : List ℤ) (message out : List ℕ) where
   unfoldable pub signAnswerIn : Signing
-  signAnswerIn =
-      pick (eqb (signRefusalIn p key exponents masks (length out)) 0)
-      (signedAnswer (signedBy draw p (keyOf key) exponents masks message))
-      (answer.Refused (signRefusalIn p key exponents masks (length out)))
+  signAnswerIn = signingAfter (signRefusalIn p key exponents masks (length out)) (signedBy draw p (keyOf key) exponents masks message)
 
   unfoldable pub signWrittenIn : List ℕ
-  signWrittenIn =
-      pick (eqb (signRefusalIn p key exponents masks (length out)) 0)
-      (signedBytes (setByte key) (signedBy draw p (keyOf key) exponents masks message) out)
-      out
+  signWrittenIn = writtenAfter (signRefusalIn p key exponents masks (length out)) (setByte key) (signedBy draw p (keyOf key) exponents masks message) out
 
--- what the entry answers, and its buffer after it
-unfoldable pub signAnswer : List ℕ → List ℕ → List ℤ → List ℕ → List ℕ → Signing
-signAnswer key exponents masks message out =
-    pick (isLong message) (answer.Refused 1)
-    (pick (eqb (length key) 0) (answer.Refused 1)
-    (pick (not (isSet (setByte key))) (answer.Refused 2)
-    (signAnswerIn drawChallenge (setOf (setByte key)) key exponents masks message out)))
+-- the entry: what it answers, and its buffer after it
+module _ (key exponents : List ℕ) (masks : List ℤ) (message out : List ℕ) where
+  unfoldable pub signAnswer : Signing
+  signAnswer = signingAfter (signRefusal key exponents masks message out) (signedBy drawChallenge (setIn key) (keyOf key) exponents masks message)
 
-unfoldable pub signWritten : List ℕ → List ℕ → List ℤ → List ℕ → List ℕ → List ℕ
-signWritten key exponents masks message out =
-    pick (isLong message) out
-    (pick (eqb (length key) 0) out
-    (pick (not (isSet (setByte key))) out
-    (signWrittenIn drawChallenge (setOf (setByte key)) key exponents masks message out)))
+  unfoldable pub signWritten : List ℕ
+  signWritten =
+      writtenAfter (signRefusal key exponents masks message out) (setByte key)
+      (signedBy drawChallenge (setIn key) (keyOf key) exponents masks message) out

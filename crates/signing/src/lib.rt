@@ -1,67 +1,171 @@
-// Signing as an entry.
-mod first_mask;
-
+// Signing: the masks are offered in turn and the first that passes signs; then the entry with its refusals.
 ghost use mathlib.Core.Path.{_≡_};
-ghost use mathlib.Core.Bool.{_&&_};
-ghost use Prim.Native.Nat.{_*_, _%_, _<_};
-ghost use lib.Dec.{leb, eqb};
+ghost use mathlib.Core.List.{_∷_};
 ghost use Rattle.challenge.specs.Draw.{drawChallenge};
-ghost use Rattle.parameters.specs.Sets.{setOf};
-ghost use Rattle.parameters.specs.Sound.{Fitting};
-ghost use Rattle.refusal.specs.Answer.{setByte};
-ghost use Rattle.signing.specs.Sign.{signRefusalIn, signAnswerIn, signWrittenIn, signAnswer, signWritten};
-use crate::first_mask::sign_first;
-use encoding::layout::coefficients_of;
-use encoding::public_key::are_exponents;
+ghost use Rattle.parameters.specs.Ring.{Usable};
+ghost use Rattle.parameters.specs.Sound.{Fitting, Sound};
+ghost use Rattle.signing.specs.Sign.{areWhole, signLengths, signRefusalIn, signAnswerIn, signWrittenIn, signAnswer, signWritten};
+ghost use lib.ListN.{length};
+ghost use Rattle.encoding.specs.Challenge.{entriesOf};
+ghost use Rattle.encoding.specs.Encoding.{signatureSize, signatureBytes};
+ghost use Rattle.polynomial.specs.Sparse.{Sparse};
+ghost use Rattle.scheme.specs.Scheme.{attempt, signatureInRange};
+ghost use Rattle.signing.specs.Asks.{TernaryKey, Points, Writable};
+ghost use Rattle.signing.specs.Signer.{offeredCount, signedBy, Offered, Attempted};
+use challenge::challenge_of;
+use encoding::numbers::are_exponents;
+use encoding::numbers::narrow;
 use encoding::secret_key::are_key_bytes;
+use encoding::secret_key::decode_secret_key;
+use encoding::secret_key::secret_key_size;
+use encoding::signature::put_signature;
+use encoding::signature::signature_size;
+use encoding::signature::write_entries;
+use parameters::MAX_B;
+use parameters::MAX_MASKS;
+use parameters::MAX_MESSAGE;
+use parameters::MAX_N;
+use parameters::MAX_T;
 use parameters::Params;
-use parameters::params_of;
-use parameters::powers_of;
-use polynomial::range::in_range16;
+use parameters::ring_of;
+use polynomial::evaluation::evaluate;
+use polynomial::product::in_range;
+use polynomial::product::in_range16;
+use polynomial::product::z_of;
+use refusal::NONE_PASSES;
 use refusal::Signing;
+use refusal::WRONG_EXPONENTS;
+use refusal::WRONG_KEY;
+use refusal::WRONG_LENGTH;
+use refusal::WRONG_MASK;
+use refusal::set_refusal;
+use refusal::unless;
 
-// Whether so many numbers are masks of n numbers each, at most eight.
-fn are_masks(count: usize, n: usize) -> bool
-    requires { ⌜ (0 < n) × (n < 65536) ⌝ }
-    ensures { λ r. ⌜ r ≡ eqb (count % n) 0 && leb count (8 * n) ⌝ }
+// Writes a signature's bytes: the set, the challenge's b entries, the N coefficients of z.
+fn encode_signature(p: Params, set: u8, c: &[i8], z: &[i32], out: &mut [u8])
+    requires { ⌜ Fitting p × Writable p (now c) (now z) (now out) ⌝ }
+    ensures { λ _. ⌜ now (out .exit) ≡ signatureBytes set (entriesOf (now (c .entry))) (now (z .entry)) ⌝ }
 {
-    (count % n == 0) & (count <= 8 * n)
+    let n = p.n;
+    let b = p.b;
+    let mut entries = [0u16; MAX_B];
+    write_entries(c, &mut entries[..b]);
+    let mut narrowed = [0i16; MAX_N];
+    narrow(z, &mut narrowed[..n]);
+    put_signature(set, &entries[..b], &narrowed[..n], out);
 }
 
-// The refusal for lengths, exponents, key and masks, or 0.
-fn refusal_in(p: Params, key: &[u8], exponents: &[u16], masks: &[i16], room: usize) -> u32
-    requires { ⌜ Fitting p ⌝ }
-    ensures { λ r. ⌜ r ≡ signRefusalIn p (now (key .entry)) (now (exponents .entry)) (now (masks .entry)) room ⌝ }
+// Writes the signature with the challenge c and the mask y where its point is in range, and says whether it is.
+fn sign_with_challenge(p: Params, set: u8, f: &[i16], c: &[i8], y: &[i16], out: &mut [u8]) -> bool
+    requires { ⌜ Sound p × Fitting p × TernaryKey p (now f) × Sparse p (now c) ⌝ }
+    requires { ⌜ (length (now y) ≡ p .n) × (length (now out) ≡ signatureSize p) ⌝ }
+    ensures { λ r. ⌜ Attempted set (signatureInRange p (now (f .entry)) (now (y .entry)) (now (c .entry))) (now (out .entry)) r (now (out .exit)) ⌝ }
+{
+    let n = p.n;
+    let mut z = [0i32; MAX_N];
+    z_of(f, c, y, &mut z[..n]);
+    let bound = p.k - p.b as u32;
+    if in_range(&z[..n], bound) {
+        encode_signature(p, set, c, &z[..n], out);
+        return true;
+    }
+    false
+}
+
+// Writes the signature that the mask y gives where it passes, and says whether it does.
+fn sign_with_mask(
+    p: Params,
+    powers: &[u32; MAX_N],
+    set: u8,
+    f: &[i16],
+    exponents: &[u16],
+    y: &[i16],
+    message: &[u8],
+    out: &mut [u8],
+) -> bool
+    requires { ⌜ Usable p (now powers) × TernaryKey p (now f) × Points p (now exponents) ⌝ }
+    requires { ⌜ (length (now y) ≡ p .n) × (length (now out) ≡ signatureSize p) ⌝ }
+    ensures { λ r. ⌜ Attempted set (attempt drawChallenge p (now (exponents .entry)) (now (message .entry)) (now (f .entry)) (now (y .entry)))
+        (now (out .entry)) r (now (out .exit)) ⌝ }
 {
     let n = p.n;
     let t = p.t;
-    if key.len() != 1 + n {
-        return 1;
+    let mut commitment = [0u32; MAX_T];
+    evaluate(p, powers, y, exponents, &mut commitment[..t]);
+    let drawn = challenge_of(p, &commitment[..t], message);
+    if !drawn.complete {
+        return false;
     }
-    if exponents.len() != t {
-        return 1;
-    }
-    if !are_masks(masks.len(), n) {
-        return 1;
-    }
-    if room != 1 + 2 * p.b + 2 * n {
-        return 1;
-    }
-    if !are_exponents(exponents, n) {
-        return 4;
-    }
-    if !are_key_bytes(&key[1..]) {
-        return 5;
-    }
-    if in_range16(masks, p.k) {
-        return 0;
-    }
-    6
+    let c = drawn.challenge;
+    sign_with_challenge(p, set, f, &c[..n], y, out)
 }
 
-// Signs in a set, the message and the set byte being allowed.
-fn sign_in(
+// Offers the masks in turn, N numbers each, and writes the signature of the first that passes. Answers how many were passed over:
+// all of them where none passes, and then the buffer is as it was.
+pub fn sign_first(
     p: Params,
+    powers: &[u32; MAX_N],
+    set: u8,
+    f: &[i16],
+    exponents: &[u16],
+    masks: &[i16],
+    message: &[u8],
+    out: &mut [u8],
+) -> usize
+    requires { ⌜ Usable p (now powers) × TernaryKey p (now f) × Points p (now exponents) ⌝ }
+    requires { ⌜ length (now out) ≡ signatureSize p ⌝ }
+    ensures { λ r. ⌜ Offered set (offeredCount p (now (masks .entry)))
+        (signedBy drawChallenge p (now (f .entry)) (now (exponents .entry)) (now (masks .entry)) (now (message .entry)))
+        (now (out .entry)) r (now (out .exit)) ⌝ }
+{
+    let n = p.n;
+    let count = masks.len() / n;
+    let mut i = 0;
+    while i < count {
+        let at = i * n;
+        let to = at + n;
+        if sign_with_mask(p, powers, set, f, exponents, &masks[at..to], message, out) {
+            return i;
+        }
+        i += 1;
+    }
+    count
+}
+
+// Whether so many numbers are masks of N numbers each, at most eight.
+fn are_masks(p: Params, count: usize) -> bool
+    requires { ⌜ Fitting p ⌝ }
+    ensures { λ r. ⌜ r ≡ areWhole p count ⌝ }
+{
+    (count % p.n == 0) & (count <= MAX_MASKS * p.n)
+}
+
+// Whether the lengths are those of the set.
+fn has_sign_lengths(p: Params, key: usize, exponents: usize, masks: usize, room: usize) -> bool
+    requires { ⌜ Fitting p ⌝ }
+    ensures { λ r. ⌜ r ≡ signLengths p key exponents masks room ⌝ }
+{
+    (key == secret_key_size(p))
+        & ((exponents == p.t) & (are_masks(p, masks) & (room == signature_size(p))))
+}
+
+// The refusal for lengths, exponents, key and masks, or 0; the key without its set byte, which decides nothing here.
+fn sign_refusal(p: Params, key: &[u8], exponents: &[u16], masks: &[i16], room: usize) -> u32
+    requires { ⌜ Fitting p ⌝ }
+    ensures { λ r. ⌜ r ≡ signRefusalIn p (0 ∷ now (key .entry)) (now (exponents .entry)) (now (masks .entry)) room ⌝ }
+{
+    if !has_sign_lengths(p, 1 + key.len(), exponents.len(), masks.len(), room) {
+        return WRONG_LENGTH;
+    }
+    let of_masks = unless(in_range16(masks, p.k), WRONG_MASK, 0);
+    let of_key = unless(are_key_bytes(key), WRONG_KEY, of_masks);
+    unless(are_exponents(exponents, p.n), WRONG_EXPONENTS, of_key)
+}
+
+// Signs in a set with a key without its set byte.
+pub fn sign_in(
+    p: Params,
+    powers: &[u32; MAX_N],
     set: u8,
     key: &[u8],
     exponents: &[u16],
@@ -69,23 +173,24 @@ fn sign_in(
     message: &[u8],
     out: &mut [u8],
 ) -> Signing
-    requires { ⌜ (set < 5) × (p ≡ setOf set) × (setByte (now key) ≡ set) ⌝ }
-    ensures answer { λ r. ⌜ r ≡ signAnswerIn drawChallenge p (now (key .entry)) (now (exponents .entry)) (now (masks .entry)) (now (message .entry)) (now (out .entry)) ⌝ }
-    ensures written { λ r. ⌜ now (out .exit) ≡ signWrittenIn drawChallenge p (now (key .entry)) (now (exponents .entry)) (now (masks .entry)) (now (message .entry)) (now (out .entry)) ⌝ }
+    requires { ⌜ Usable p (now powers) ⌝ }
+    ensures answer { λ r. ⌜ r ≡ signAnswerIn drawChallenge p (set ∷ now (key .entry)) (now (exponents .entry))
+        (now (masks .entry)) (now (message .entry)) (now (out .entry)) ⌝ }
+    ensures written { λ _. ⌜ now (out .exit) ≡ signWrittenIn drawChallenge p (set ∷ now (key .entry)) (now (exponents .entry))
+        (now (masks .entry)) (now (message .entry)) (now (out .entry)) ⌝ }
 {
-    let refusal = refusal_in(p, key, exponents, masks, out.len());
+    let refusal = sign_refusal(p, key, exponents, masks, out.len());
     if refusal != 0 {
         return Signing::Refused(refusal);
     }
     let n = p.n;
-    let f = coefficients_of(key, n);
-    let table = powers_of(set);
-    let passed = sign_first(p, &table[..n], set, &f[..n], exponents, masks, message, out);
+    let f = decode_secret_key(p, key);
+    let passed = sign_first(p, powers, set, &f[..n], exponents, masks, message, out);
     if passed < masks.len() / n {
         let number = passed as u8;
         Signing::Signed(number)
     } else {
-        Signing::Refused(9)
+        Signing::Refused(NONE_PASSES)
     }
 }
 
@@ -97,19 +202,30 @@ pub fn sign(
     message: &[u8],
     out: &mut [u8],
 ) -> Signing
-    ensures answer { λ r. ⌜ r ≡ signAnswer (now («secret_key» .entry)) (now (exponents .entry)) (now (masks .entry)) (now (message .entry)) (now (out .entry)) ⌝ }
-    ensures written { λ r. ⌜ now (out .exit) ≡ signWritten (now («secret_key» .entry)) (now (exponents .entry)) (now (masks .entry)) (now (message .entry)) (now (out .entry)) ⌝ }
+    ensures answer { λ r. ⌜ r ≡ signAnswer (now («secret_key» .entry)) (now (exponents .entry)) (now (masks .entry))
+        (now (message .entry)) (now (out .entry)) ⌝ }
+    ensures written { λ _. ⌜ now (out .exit) ≡ signWritten (now («secret_key» .entry)) (now (exponents .entry)) (now (masks .entry))
+        (now (message .entry)) (now (out .entry)) ⌝ }
 {
-    if 65535 < message.len() {
-        return Signing::Refused(1);
+    if MAX_MESSAGE < message.len() {
+        return Signing::Refused(WRONG_LENGTH);
     }
-    if secret_key.len() == 0 {
-        return Signing::Refused(1);
+    let refusal = set_refusal(secret_key);
+    if refusal != 0 {
+        return Signing::Refused(refusal);
     }
     let set = secret_key[0];
-    if 4 < set {
-        return Signing::Refused(2);
-    }
-    let p = params_of(set);
-    sign_in(p, set, secret_key, exponents, masks, message, out)
+    let ring = ring_of(set);
+    let p = ring.params;
+    let powers = ring.powers;
+    sign_in(
+        p,
+        &powers,
+        set,
+        &secret_key[1..],
+        exponents,
+        masks,
+        message,
+        out,
+    )
 }

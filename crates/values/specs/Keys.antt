@@ -1,25 +1,25 @@
 -- The entry `public_key`: refusals 1 (empty), 2, 1, 4, 5, then the public key of a secret key at the points.
 -- Assumes nothing.
-use mathlib.Core.Bool.{not}
+use mathlib.Core.Bool.{Bool, not, _&&_, cond}
 use mathlib.Core.List.{List}
 use Prim.Native.Nat.{ℕ}
 use lib.Dec.{eqb}
 use lib.ListN.{length}
-use Rattle.algebra.specs.Choice.{pick}
 use Rattle.parameters.specs.declared.Params.{Params}
-use Rattle.parameters.specs.Sets.{setOf}
 use Rattle.polynomial.specs.Evaluation.{evaluations}
 use Rattle.encoding.specs.Encoding.{secretKeySize, publicKeySize, areExponents, isKey, keyOf, publicKey}
-use Rattle.refusal.specs.Answer.{setByte, inSetOf, unlessRefused}
+use Rattle.refusal.specs.Answer.{setByte, setIn, inSetOf, unlessRefused}
+use Rattle.refusal.specs.Numbers.{wrongLength, wrongExponents, wrongKey}
 
--- lengths, then 4, 5
+-- the lengths: of the secret key, the exponents and the room for the public key
+abbrev pub publicKeyLengths : Params → ℕ → ℕ → ℕ → Bool
+publicKeyLengths p key exponents room = eqb key (secretKeySize p) && (eqb exponents (p .t) && eqb room (publicKeySize p))
+
 unfoldable pub publicKeyRefusalIn : Params → List ℕ → List ℕ → ℕ → ℕ
 publicKeyRefusalIn p key exponents room =
-    pick (not (eqb (length key) (secretKeySize p))) 1
-    (pick (not (eqb (length exponents) (p .t))) 1
-    (pick (not (eqb room (publicKeySize p))) 1
-    (pick (not (areExponents p exponents)) 4
-    (pick (not (isKey key)) 5 0))))
+    cond (not (publicKeyLengths p (length key) (length exponents) room)) wrongLength
+    (cond (not (areExponents p exponents)) wrongExponents
+    (cond (not (isKey key)) wrongKey 0))
 
 unfoldable pub publicKeyRefusal : List ℕ → List ℕ → List ℕ → ℕ
 publicKeyRefusal key exponents out = inSetOf key (λ (p : Params). publicKeyRefusalIn p key exponents (length out))
@@ -28,6 +28,9 @@ publicKeyRefusal key exponents out = inSetOf key (λ (p : Params). publicKeyRefu
 unfoldable pub publicKeyIn : Params → List ℕ → List ℕ → List ℕ
 publicKeyIn p key exponents = publicKey (setByte key) exponents (evaluations p (keyOf key) exponents)
 
+-- the buffer after it, in one set and of the entry
+unfoldable pub publicKeyWrittenIn : Params → List ℕ → List ℕ → List ℕ → List ℕ
+publicKeyWrittenIn p key exponents out = unlessRefused (publicKeyRefusalIn p key exponents (length out)) (publicKeyIn p key exponents) out
+
 unfoldable pub publicKeyWritten : List ℕ → List ℕ → List ℕ → List ℕ
-publicKeyWritten key exponents out =
-    unlessRefused (publicKeyRefusal key exponents out) (publicKeyIn (setOf (setByte key)) key exponents) out
+publicKeyWritten key exponents out = unlessRefused (publicKeyRefusal key exponents out) (publicKeyIn (setIn key) key exponents) out

@@ -1,34 +1,22 @@
 // The drawer as an entry.
 ghost use mathlib.Core.Path.{_≡_};
-ghost use lib.ListN.{length};
 ghost use Rattle.refusal.specs.Answer.{answerOf};
-ghost use Rattle.values.specs.Draw.{isPoolSize, drawRefusal, drawWritten};
-use challenge::draw::draw_from;
+ghost use Rattle.values.specs.Draw.{drawLengths, drawRefusal, drawWritten};
+use challenge::draw_from;
+use encoding::numbers::copy_i8;
+use parameters::Params;
+use parameters::is_set;
 use parameters::params_of;
 use refusal::Answer;
+use refusal::POOL_SPENT;
+use refusal::WRONG_LENGTH;
+use refusal::WRONG_SET;
 
-// A pool has 64 to 512 bytes, a multiple of 64.
-fn is_pool_size(n: usize) -> bool
-    ensures { λ r. ⌜ r ≡ isPoolSize n ⌝ }
+// Whether the pool has 64 to 512 bytes, a multiple of 64, and the buffer has room for N coefficients.
+fn has_draw_lengths(p: Params, pool: usize, room: usize) -> bool
+    ensures { λ r. ⌜ r ≡ drawLengths p pool room ⌝ }
 {
-    if n < 64 {
-        return false;
-    }
-    if 512 < n {
-        return false;
-    }
-    n % 64 == 0
-}
-
-fn copy(c: &[i8], out: &mut [i8])
-    requires { ⌜ length (now out) ≡ length (now c) ⌝ }
-    ensures { λ _. ⌜ now (out .exit) ≡ now (c .entry) ⌝ }
-{
-    let mut i = 0;
-    while i < c.len() {
-        out[i] = c[i];
-        i += 1;
-    }
+    ((64 <= pool) & ((pool <= 512) & (pool % 64 == 0))) & (room == p.n)
 }
 
 // Draws the challenge of a pool, N coefficients. Refuses with 2, 1, 11.
@@ -36,22 +24,19 @@ pub fn draw(set: u8, pool: &[u8], out: &mut [i8]) -> Answer
     ensures answer { λ r. ⌜ r ≡ answerOf (drawRefusal set (now (pool .entry)) (now (out .entry))) ⌝ }
     ensures written { λ r. ⌜ now (out .exit) ≡ drawWritten set (now (pool .entry)) (now (out .entry)) ⌝ }
 {
-    if 4 < set {
-        return Answer::Refused(2);
+    if !is_set(set) {
+        return Answer::Refused(WRONG_SET);
     }
     let p = params_of(set);
-    let n = p.n;
-    if !is_pool_size(pool.len()) {
-        return Answer::Refused(1);
-    }
-    if out.len() != n {
-        return Answer::Refused(1);
+    if !has_draw_lengths(p, pool.len(), out.len()) {
+        return Answer::Refused(WRONG_LENGTH);
     }
     let drawn = draw_from(p, pool);
     if !drawn.complete {
-        return Answer::Refused(11);
+        return Answer::Refused(POOL_SPENT);
     }
+    let n = p.n;
     let c = drawn.challenge;
-    copy(&c[..n], out);
+    copy_i8(&c[..n], out);
     Answer::Done
 }

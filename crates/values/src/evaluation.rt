@@ -2,31 +2,24 @@
 ghost use mathlib.Core.Path.{_≡_};
 ghost use Rattle.refusal.specs.Answer.{answerOf};
 ghost use Rattle.values.specs.Evaluate.{evaluateRefusalIn, evaluateRefusal, evaluateWritten};
-use encoding::public_key::are_exponents;
+use encoding::numbers::are_exponents;
 use parameters::Params;
-use parameters::params_of;
-use parameters::powers_of;
+use parameters::is_set;
+use parameters::ring_of;
 use refusal::Answer;
+use refusal::WRONG_EXPONENTS;
+use refusal::WRONG_LENGTH;
+use refusal::WRONG_SET;
+use refusal::unless;
 
 // The refusal for lengths and exponents, or 0.
-fn refusal_in(p: Params, size: usize, exponents: &[u16], room: usize) -> u32
+fn evaluate_refusal(p: Params, size: usize, exponents: &[u16], room: usize) -> u32
     ensures { λ r. ⌜ r ≡ evaluateRefusalIn p size (now (exponents .entry)) room ⌝ }
 {
-    let n = p.n;
-    let t = p.t;
-    if size != n {
-        return 1;
+    if !((size == p.n) & ((exponents.len() == p.t) & (room == p.t))) {
+        return WRONG_LENGTH;
     }
-    if exponents.len() != t {
-        return 1;
-    }
-    if room != t {
-        return 1;
-    }
-    if are_exponents(exponents, n) {
-        return 0;
-    }
-    4
+    unless(are_exponents(exponents, p.n), WRONG_EXPONENTS, 0)
 }
 
 // Evaluates N coefficients at the t points. Refuses with 2, 1, 4.
@@ -34,16 +27,16 @@ pub fn evaluate(set: u8, coefficients: &[i16], exponents: &[u16], out: &mut [u32
     ensures answer { λ r. ⌜ r ≡ answerOf (evaluateRefusal set (now (coefficients .entry)) (now (exponents .entry)) (now (out .entry))) ⌝ }
     ensures written { λ r. ⌜ now (out .exit) ≡ evaluateWritten set (now (coefficients .entry)) (now (exponents .entry)) (now (out .entry)) ⌝ }
 {
-    if 4 < set {
-        return Answer::Refused(2);
+    if !is_set(set) {
+        return Answer::Refused(WRONG_SET);
     }
-    let p = params_of(set);
-    let refusal = refusal_in(p, coefficients.len(), exponents, out.len());
+    let ring = ring_of(set);
+    let p = ring.params;
+    let refusal = evaluate_refusal(p, coefficients.len(), exponents, out.len());
     if refusal != 0 {
         return Answer::Refused(refusal);
     }
-    let n = p.n;
-    let table = powers_of(set);
-    polynomial::evaluation::evaluate(p, &table[..n], coefficients, exponents, out);
+    let powers = ring.powers;
+    polynomial::evaluation::evaluate(p, &powers, coefficients, exponents, out);
     Answer::Done
 }

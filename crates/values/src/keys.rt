@@ -1,62 +1,91 @@
 // The public key of a secret key.
 ghost use mathlib.Core.Path.{_≡_};
 ghost use mathlib.Core.Bool.{true};
-ghost use Prim.Native.Nat.{_<_};
-ghost use lib.ListN.{length, take};
-ghost use Rattle.parameters.specs.Sets.{setOf};
+ghost use mathlib.Core.List.{_∷_};
+ghost use lib.ListN.{length};
+ghost use Rattle.parameters.specs.Ring.{Usable};
 ghost use Rattle.parameters.specs.Sound.{Fitting};
 ghost use Rattle.polynomial.specs.Evaluation.{evaluations};
-ghost use Rattle.encoding.specs.Encoding.{secretKeySize, areExponents, keyOf};
+ghost use Rattle.encoding.specs.Encoding.{areExponents, keyIn};
 ghost use Rattle.refusal.specs.Answer.{answerOf};
-ghost use Rattle.values.specs.Keys.{publicKeyRefusalIn, publicKeyRefusal, publicKeyWritten};
-use encoding::layout::coefficients_of;
-use encoding::layout::put_public_key;
-use encoding::public_key::are_exponents;
+ghost use Rattle.values.specs.Keys.{publicKeyLengths, publicKeyRefusalIn, publicKeyWrittenIn, publicKeyRefusal, publicKeyWritten};
+use encoding::numbers::are_exponents;
+use encoding::public_key::public_key_size;
+use encoding::public_key::put_public_key;
 use encoding::secret_key::are_key_bytes;
+use encoding::secret_key::decode_secret_key;
+use encoding::secret_key::secret_key_size;
+use parameters::MAX_N;
+use parameters::MAX_T;
 use parameters::Params;
-use parameters::params_of;
-use parameters::powers_of;
+use parameters::ring_of;
 use polynomial::evaluation::evaluate;
 use refusal::Answer;
+use refusal::WRONG_EXPONENTS;
+use refusal::WRONG_KEY;
+use refusal::WRONG_LENGTH;
+use refusal::set_refusal;
+use refusal::unless;
 
-// The refusal for lengths, exponents and key, or 0.
-fn refusal_in(p: Params, key: &[u8], exponents: &[u16], room: usize) -> u32
+// Whether the lengths are those of the set.
+fn has_key_lengths(p: Params, key: usize, exponents: usize, room: usize) -> bool
     requires { ⌜ Fitting p ⌝ }
-    ensures { λ r. ⌜ r ≡ publicKeyRefusalIn p (now (key .entry)) (now (exponents .entry)) room ⌝ }
+    ensures { λ r. ⌜ r ≡ publicKeyLengths p key exponents room ⌝ }
 {
-    let n = p.n;
-    let t = p.t;
-    if key.len() != 1 + n {
-        return 1;
-    }
-    if exponents.len() != t {
-        return 1;
-    }
-    if room != 1 + 2 * t + 3 * t {
-        return 1;
-    }
-    if !are_exponents(exponents, n) {
-        return 4;
-    }
-    if are_key_bytes(&key[1..]) {
-        return 0;
-    }
-    5
+    (key == secret_key_size(p)) & ((exponents == p.t) & (room == public_key_size(p)))
 }
 
-// The public evaluations of an encoded secret key at the points, in front.
-fn evaluations_of(p: Params, set: u8, key: &[u8], exponents: &[u16]) -> [u32; 1152]
-    requires { ⌜ (set < 5) × (p ≡ setOf set) ⌝ }
-    requires { ⌜ (length (now key) ≡ secretKeySize p) × (length (now exponents) ≡ p .t) × (areExponents p (now exponents) ≡ true) ⌝ }
-    ensures { λ r. ⌜ take (p .t) r ≡ evaluations p (keyOf (now (key .entry))) (now (exponents .entry)) ⌝ }
+// The refusal for lengths, exponents and key, or 0; the key without its set byte, which decides nothing here.
+fn key_refusal(p: Params, key: &[u8], exponents: &[u16], room: usize) -> u32
+    requires { ⌜ Fitting p ⌝ }
+    ensures { λ r. ⌜ r ≡ publicKeyRefusalIn p (0 ∷ now (key .entry)) (now (exponents .entry)) room ⌝ }
+{
+    if !has_key_lengths(p, 1 + key.len(), exponents.len(), room) {
+        return WRONG_LENGTH;
+    }
+    let of_key = unless(are_key_bytes(key), WRONG_KEY, 0);
+    unless(are_exponents(exponents, p.n), WRONG_EXPONENTS, of_key)
+}
+
+// The public evaluations of a key without its set byte at the points.
+pub fn key_evaluations(
+    p: Params,
+    powers: &[u32; MAX_N],
+    key: &[u8],
+    exponents: &[u16],
+    out: &mut [u32],
+)
+    requires { ⌜ Usable p (now powers) ⌝ }
+    requires { ⌜ (length (now key) ≡ p .n) × (length (now exponents) ≡ p .t) × (length (now out) ≡ p .t) × (areExponents p (now exponents) ≡ true) ⌝ }
+    ensures { λ _. ⌜ now (out .exit) ≡ evaluations p (keyIn (now (key .entry))) (now (exponents .entry)) ⌝ }
 {
     let n = p.n;
+    let f = decode_secret_key(p, key);
+    evaluate(p, powers, &f[..n], exponents, out);
+}
+
+// Writes the public key in a set of a key without its set byte.
+fn public_key_in(
+    p: Params,
+    powers: &[u32; MAX_N],
+    set: u8,
+    key: &[u8],
+    exponents: &[u16],
+    out: &mut [u8],
+) -> Answer
+    requires { ⌜ Usable p (now powers) ⌝ }
+    ensures answer { λ r. ⌜ r ≡ answerOf (publicKeyRefusalIn p (set ∷ now (key .entry)) (now (exponents .entry)) (length (now (out .entry)))) ⌝ }
+    ensures written { λ _. ⌜ now (out .exit) ≡ publicKeyWrittenIn p (set ∷ now (key .entry)) (now (exponents .entry)) (now (out .entry)) ⌝ }
+{
+    let refusal = key_refusal(p, key, exponents, out.len());
+    if refusal != 0 {
+        return Answer::Refused(refusal);
+    }
     let t = p.t;
-    let f = coefficients_of(key, n);
-    let table = powers_of(set);
-    let mut values = [0u32; 1152];
-    evaluate(p, &table[..n], &f[..n], exponents, &mut values[..t]);
-    values
+    let mut values = [0u32; MAX_T];
+    key_evaluations(p, powers, key, exponents, &mut values[..t]);
+    put_public_key(set, exponents, &values[..t], out);
+    Answer::Done
 }
 
 // Writes the public key of an encoded secret key at the t points. Refuses with 1, 2, 1, 4, 5.
@@ -64,20 +93,13 @@ pub fn public_key(secret_key: &[u8], exponents: &[u16], out: &mut [u8]) -> Answe
     ensures answer { λ r. ⌜ r ≡ answerOf (publicKeyRefusal (now («secret_key» .entry)) (now (exponents .entry)) (now (out .entry))) ⌝ }
     ensures written { λ r. ⌜ now (out .exit) ≡ publicKeyWritten (now («secret_key» .entry)) (now (exponents .entry)) (now (out .entry)) ⌝ }
 {
-    if secret_key.len() == 0 {
-        return Answer::Refused(1);
-    }
-    let set = secret_key[0];
-    if 4 < set {
-        return Answer::Refused(2);
-    }
-    let p = params_of(set);
-    let refusal = refusal_in(p, secret_key, exponents, out.len());
+    let refusal = set_refusal(secret_key);
     if refusal != 0 {
         return Answer::Refused(refusal);
     }
-    let t = p.t;
-    let values = evaluations_of(p, set, secret_key, exponents);
-    put_public_key(set, exponents, &values[..t], out);
-    Answer::Done
+    let set = secret_key[0];
+    let ring = ring_of(set);
+    let p = ring.params;
+    let powers = ring.powers;
+    public_key_in(p, &powers, set, &secret_key[1..], exponents, out)
 }

@@ -1,56 +1,96 @@
--- `check` meets its contract: each refusal by the tests that led to it, then the check in the set.
+-- `check` meets its contract: what the guard refuses, then the check on the public key decoded once.
 -- Assumes nothing.
-use Prim.Native.Nat.{_<_}
+use mathlib.Core.Path.{_≡_, sym, _∙_}
+use Prim.Native.Nat.{_+_, _*_, _≤_}
 use native.Mathlib.Omega.{arith}
-use lib.ListN.{getD}
+use lib.ListN.{length}
 use borrow.Author.Needs.{needs}
-use borrow.Author.Tests.{lt-ltb, le-ltb, eq-eqb, ne-eqb}
+use borrow.Author.Tests.{ne-eqb}
+use Rattle.algebra.proofs.Front.{in-front}
+use Rattle.parameters.specs.Sound.{Limited}
+use Rattle.encoding.specs.Encoding.{publicKeySize, signatureSize}
+use Rattle.encoding.proofs.Parts.{rest-size}
+use Rattle.refusal.proofs.SetRefusal.{some-bytes}
 use Rattle.checking.specs.Check.{checkAnswer}
+use Rattle.checking.proofs.Guard.{Guarded, guard-first, guarded, guarded-sizes, decoded-answer}
 use Rattle.checking.proofs.check.Statement.{statement}
 use Rattle.checking.proofs.check.Tie as tie
 
+module _ (c : tie.Else1) where
+  abbrev start : tie.Start
+  start = c .before .before .before .before .before
+
+  passed : Guarded (start .args .public-key .now) (start .args .message .now) (start .args .signature .now)
+  passed = guarded _ _ _ (sym (c .before .guard-refusal .ensures) ∙ c .if1 .left)
+
+-- the sizes, in the set that was looked up
+sizes : (c : tie.After-ring-of) →
+    let s = start (c .before .before) .args in
+    (length (s .public-key .now) ≡ publicKeySize (c .ring-of .result .params)) × (length (s .signature .now) ≡ signatureSize (c .ring-of .result .params))
+sizes c = rw (c .ring-of .ensures .params) (guarded-sizes _ _ _ (passed (c .before .before)))
+
+-- the lists stand in front of their arrays
+module _ (c : tie.After-decode-public-key) where
+  abbrev ring : tie.After-ring-of
+  ring = c .before .before .before .before
+
+  exponents-room : ring .ring-of .result .params .t ≤ length (c .decode-public-key .result .exponents)
+  exponents-room =
+      let size : length (c .decode-public-key .result .exponents) ≡ 1152 = search needs in
+      let f = ring .ring-of .ensures .usable .fitting in
+      omega (arith, f .size, f .exponents)
+
+  evaluations-room : ring .ring-of .result .params .t ≤ length (c .decode-public-key .result .evaluations)
+  evaluations-room =
+      let size : length (c .decode-public-key .result .evaluations) ≡ 1152 = search needs in
+      let f = ring .ring-of .ensures .usable .fitting in
+      omega (arith, f .size, f .exponents)
+
 returns : tie.Need-returns
 unfolding checkAnswer
-returns c = rw (lt-ltb 65535 _ (c .if1 .taken))
+returns c =
+    let g = c .before in
+    let s = g .before .before .before .before .args in
+    let first = guard-first (s .public-key .now) (s .message .now) (s .signature .now) (λ e. c .if1 .taken (g .guard-refusal .ensures ∙ e)) in
+    rw (first, ← g .guard-refusal .ensures, ne-eqb _ 0 (c .if1 .taken))
+
+decode-public-key-requires : tie.Need-decode-public-key-requires
+decode-public-key-requires c κs =
+    let r = c .before .before .before in
+    let p = r .ring-of .result .params in
+    let f = r .ring-of .ensures .usable .fitting in
+    let limited : Limited p = record { size = f .size; weight = f .weight; count = omega (arith, f .size, f .exponents) } in
+    (limited, rest-size (start (r .before .before) .args .public-key .now) 1 (2 * p .t + 3 * p .t) (omega (arith, sizes r .0)))
+
+exponents-count : tie.Need-slice-aggregate-check-in
+exponents-count c = let d = c .before .before .before .before in in-front _ (d .decode-public-key .result .exponents) (exponents-room d) .count
+
+evaluations-count : tie.Need-slice-aggregate-check-in-2
+evaluations-count c =
+    let d = c .before .before .before .before .before in
+    in-front _ (d .decode-public-key .result .evaluations) (evaluations-room d) .count
+
+signature-some : tie.Need-sub-check-in
+signature-some c = omega (arith, sizes (ring (c .before .before .before .before .before)) .1)
+
+check-in-requires : tie.Need-check-in-requires
+check-in-requires c κs =
+    let r = ring (c .before .before .before .before .before .before) in
+    let p = r .ring-of .result .params in
+    let rest = rest-size (start (r .before .before) .args .signature .now) 1 (2 * p .b + 2 * p .n) (omega (arith, sizes r .1)) in
+    (r .ring-of .ensures .usable, (sym (exponents-count (c .before .before)), sym (evaluations-count (c .before)), rest))
 
 returns-2 : tie.Need-returns-2
-unfolding checkAnswer
-returns-2 c = rw (le-ltb 65535 _ (c .before .if1 .left), eq-eqb _ 0 (c .if2 .taken))
-
-returns-3 : tie.Need-returns-3
-unfolding checkAnswer
-returns-3 c = rw (le-ltb 65535 _ (c .before .before .if1 .left), ne-eqb _ 0 (c .before .if2 .left), eq-eqb _ 0 (c .if3 .taken))
-
-returns-4 : tie.Need-returns-4
-unfolding checkAnswer
-returns-4 c =
-    let s = c .before .before in
-    rw (le-ltb 65535 _ (s .before .before .if1 .left), ne-eqb _ 0 (s .before .if2 .left), ne-eqb _ 0 (s .if3 .left), le-ltb _ 5 (c .if4 .taken))
-
-returns-5 : tie.Need-returns-5
-unfolding checkAnswer
-returns-5 c =
-    let s = c .before .before .before .before in
-    let known : getD (s .before .before .before .before .before .before .args .public-key .now) 0 0 < 5 = omega arith in
-    rw (le-ltb 65535 _ (s .before .before .if1 .left), ne-eqb _ 0 (s .before .if2 .left), ne-eqb _ 0 (s .if3 .left), lt-ltb _ 5 known, ne-eqb _ _ (c .if5 .taken))
-
-returns-6 : tie.Need-returns-6
-unfolding checkAnswer
-returns-6 c =
-    let e = c .before .before in
-    let s = e .before .before .before .before in
-    let known : getD (s .before .before .before .before .before .before .args .public-key .now) 0 0 < 5 = omega arith in
-    rw (
-      le-ltb 65535 _ (s .before .before .if1 .left),
-      ne-eqb _ 0 (s .before .if2 .left),
-      ne-eqb _ 0 (s .if3 .left),
-      lt-ltb _ 5 known,
-      eq-eqb _ _ (e .if5 .left),
-      ← c .before .params-of .ensures,
-    ) (c .check-in .ensures)
+returns-2 c =
+    let d = c .before .before .before .before .before .before .before in
+    let r = ring d in
+    c .check-in .ensures
+    ∙ decoded-answer _ _ _ (passed (r .before .before)) (r .ring-of .ensures .params) (d .decode-public-key .ensures .0) (d .decode-public-key .ensures .1)
 
 pub check-spec : {M : Type 1} → statement M
 check-spec =
     tie.close
-    (tie.spec returns returns-2 returns-3 (λ c. search needs) returns-4 (λ c. search needs) returns-5 (λ c κs. search needs) (λ c κs. search needs)
-    returns-6)
+    (tie.spec (λ c κs. search needs) returns (λ c. some-bytes (passed (c .before) .has-set)) (λ c κs. passed (c .before) .has-set .set)
+    (λ c. omega (arith, sizes (c .before .before) .0)) (λ c. omega (arith, sizes (c .before .before) .0)) (λ c. search needs) decode-public-key-requires
+    (λ c. exponents-room (c .before .before .before)) exponents-count (λ c. evaluations-room (c .before .before .before .before)) evaluations-count
+    signature-some (λ c. omega (arith, signature-some c)) (λ c. search needs) check-in-requires returns-2)

@@ -8,22 +8,6 @@ use Rattle.parameters.proofs.Tables.{arm}
 use Rattle.parameters.proofs.powers_of.Statement.{statement}
 use Rattle.parameters.proofs.powers_of.Tie as tie
 
-returns : tie.Need-returns
-unfolding sets setOf
-returns c = arm 0 (c .before .before .match .keys1) _ _ refl tt tt (c .at-front .ensures)
-
-returns-2 : tie.Need-returns-2
-unfolding sets setOf
-returns-2 c = arm 1 (c .before .before .match .keys2) _ _ refl tt tt (c .at-front2 .ensures)
-
-returns-3 : tie.Need-returns-3
-unfolding sets setOf
-returns-3 c = arm 2 (c .before .before .match .keys3) _ _ refl tt tt (c .at-front3 .ensures)
-
-returns-4 : tie.Need-returns-4
-unfolding sets setOf
-returns-4 c = arm 3 (c .before .before .match .keys4) _ _ refl tt tt (c .at-front4 .ensures)
-
 returns-5 : tie.Need-returns-5
 unfolding sets setOf
 returns-5 c =
@@ -31,7 +15,12 @@ returns-5 c =
     arm 4 e _ _ refl tt tt (c .at-front5 .ensures)
 
 pub powers-of-spec : {M : Type 1} → statement M
+unfolding sets setOf
 powers-of-spec =
     tie.close
     (tie.spec (λ c. search needs) (λ c κs. search needs) (λ c. search needs) (λ c κs. search needs) (λ c. search needs) (λ c κs. search needs)
-    (λ c. search needs) (λ c κs. search needs) (λ c. search needs) (λ c κs. search needs) returns returns-2 returns-3 returns-4 returns-5)
+    (λ c. search needs) (λ c κs. search needs) (λ c. search needs) (λ c κs. search needs)
+    (λ c. arm 0 (c .before .before .match .keys1) _ _ refl tt tt (c .at-front .ensures))
+    (λ c. arm 1 (c .before .before .match .keys2) _ _ refl tt tt (c .at-front2 .ensures))
+    (λ c. arm 2 (c .before .before .match .keys3) _ _ refl tt tt (c .at-front3 .ensures))
+    (λ c. arm 3 (c .before .before .match .keys4) _ _ refl tt tt (c .at-front4 .ensures)) returns-5)

@@ -1,36 +1,49 @@
--- `sign` meets its contract: each refusal by the tests that led to it, then the signing in the set.
+-- `sign` meets its contract: a message too long or a key with no set is refused; else the signing in the set looked up.
 -- Assumes nothing.
-use mathlib.Core.Path.{refl}
-use Prim.Native.Nat.{_<_}
-use native.Mathlib.Omega.{arith}
-use lib.ListN.{getD}
+use mathlib.Core.Path.{_≡_, refl, sym, _∙_}
+use mathlib.Core.Bool.{false}
 use borrow.Author.Needs.{needs}
-use borrow.Author.Tests.{lt-ltb, le-ltb, eq-eqb, ne-eqb}
-use Rattle.signing.specs.Sign.{signAnswer, signWritten}
+use borrow.Author.Tests.{lt-ltb, le-ltb, ne-eqb}
+use Rattle.refusal.specs.Answer.{isLong}
+use Rattle.refusal.proofs.SetRefusal.{some-bytes, set-and-rest, has-set}
+use Rattle.signing.specs.Sign.{signRefusal, signAnswer, signWritten}
+use Rattle.signing.proofs.Entry.{Known, set-refused, answer-entry, written-entry}
 use Rattle.signing.proofs.sign.Statement.{statement}
 use Rattle.signing.proofs.sign.Tie as tie
 
+short : (c : tie.Else1) → isLong (c .before .before .before .before .before .args .message .now) ≡ false
+short c = le-ltb 65535 _ (c .if1 .left)
+
+known : (c : tie.Else2) → let s = c .before .before .before .before .before .before .before .args in Known (s .secret-key .now) (s .message .now)
+known c = record { short = short (c .before .before); set = has-set _ (sym (c .before .set-refusal .ensures) ∙ c .if2 .left) }
+
 returns : tie.Need-returns
-unfolding signAnswer signWritten
+unfolding signAnswer signWritten signRefusal
 returns c = rw (lt-ltb 65535 _ (c .if1 .taken)) (refl, refl)
 
 returns-2 : tie.Need-returns-2
 unfolding signAnswer signWritten
-returns-2 c = rw (le-ltb 65535 _ (c .before .if1 .left), eq-eqb _ 0 (c .if2 .taken)) (refl, refl)
+returns-2 c =
+    let s = c .before .before .before .before .before .before .before .args in
+    let r = c .before .set-refusal in
+    let is = set-refused (s .secret-key .now) (s .exponents .now) (s .masks .now) (s .message .now) (s .out .now) (short (c .before .before))
+    (λ e. c .if2 .taken (r .ensures ∙ e)) in
+    rw (is, ← r .ensures, ne-eqb _ 0 (c .if2 .taken)) (refl, refl)
 
 returns-3 : tie.Need-returns-3
-unfolding signAnswer signWritten
 returns-3 c =
-    let s = c .before .before in rw (le-ltb 65535 _ (s .before .if1 .left), ne-eqb _ 0 (s .if2 .left), le-ltb _ 5 (c .if3 .taken)) (refl, refl)
-
-returns-4 : tie.Need-returns-4
-unfolding signAnswer signWritten
-returns-4 c =
-    let g = c .before .before .before .before in
-    let s = g .before .before .before in
-    let known : getD (s .before .before .before .before .before .before .args .secret-key .now) 0 0 < 5 = omega arith in
-    rw (le-ltb 65535 _ (s .before .if1 .left), ne-eqb _ 0 (s .if2 .left), lt-ltb _ 5 known, ← g .params-of .ensures) (c .before .before .sign-in .ensures)
+    let g = c .before .before .before .before .before .before .before .before in
+    let k = known (g .before .before) in
+    let s = g .before .before .before .before .before .before .before .before .before .args in
+    rw (
+      answer-entry (s .secret-key .now) (s .exponents .now) (s .masks .now) (s .message .now) (s .out .now) k,
+      written-entry (s .secret-key .now) (s .exponents .now) (s .masks .now) (s .message .now) (s .out .now) k,
+      ← g .ring-of .ensures .params,
+    ) (rw (set-and-rest (k .set)) at (c .before .before .sign-in .ensures))
 
 pub sign-spec : {M : Type 1} → statement M
 sign-spec =
-    tie.close (tie.spec returns returns-2 (λ c. search needs) returns-3 (λ c κs. search needs) (λ c κs. search needs) (λ c. search needs) returns-4)
+    tie.close
+    (tie.spec returns (λ c κs. search needs) returns-2 (λ c. some-bytes (known (c .before) .set)) (λ c κs. known (c .before) .set .set)
+    (λ c. some-bytes (known (c .before .before .before .before .before) .set)) (λ c. some-bytes (known (c .before .before .before .before .before) .set))
+    (λ c. search needs) (λ c κs. search needs) (λ c. search needs) returns-3)

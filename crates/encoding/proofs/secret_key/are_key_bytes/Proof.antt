@@ -5,7 +5,7 @@ use Prim.Native.Nat.{_-_, _≤_}
 use lib.ListN.{length, take}
 use Rattle.algebra.specs.All.{all}
 use Rattle.encoding.specs.Encoding.{isKeyByte}
-use Rattle.algebra.proofs.Loop.{all-step, all-done}
+use Rattle.algebra.proofs.All.{all-step, all-done}
 use borrow.Author.Needs.{needs}
 use native.Mathlib.Omega.{arith}
 use Rattle.encoding.proofs.secret_key.are_key_bytes.Statement.{statement}

@@ -9,11 +9,11 @@ use Rattle.harness.proofs.plays.harness_plays.Statement.{statement}
 use Rattle.harness.proofs.plays.harness_plays.Tie as tie
 
 abbrev Inv-loop : tie.InvT-loop
-Inv-loop files plays memory₀ answers₀ session₀ i₀ memory answers session i =
+Inv-loop files plays memory₀ answers₀ played₀ i₀ memory answers played i =
     (length memory ≡ length memory₀) × (length answers ≡ length answers₀) × (i ≤ length answers₀)
 
 abbrev μ-loop : tie.MeasureT-loop
-μ-loop files plays memory₀ answers₀ session₀ i₀ memory answers session i = length answers₀ - i
+μ-loop files plays memory₀ answers₀ played₀ i₀ memory answers played i = length answers₀ - i
 
 loop-holds : tie.Need-loop-holds Inv-loop μ-loop
 loop-holds c = (refl, refl, search needs)

@@ -1,13 +1,12 @@
 -- `evaluation_of` meets its contract: the loop adds the products that are left, exactly, and one remainder at the end reduces them.
 -- Assumes nothing.
-use mathlib.Core.Path.{refl, sym, ap, _∙_}
+use mathlib.Core.Path.{refl, ap, _∙_}
 use Prim.Native.Nat.{ℕ, _+_, _-_, _%_, _<_}
 use native.Mathlib.Nat.{mod-lt}
 use native.Mathlib.Omega.{arith}
 use lib.IntN.{pos}
-use lib.ListN.{length-map}
 use borrow.Author.Needs.{needs}
-use Rattle.polynomial.specs.Evaluation.{Readable, Summed}
+use Rattle.polynomial.specs.Asks.{Summed}
 use Rattle.polynomial.proofs.Table.{place-once, place-next, sum-next, sum-read}
 use Rattle.polynomial.proofs.evaluation.evaluation_of.Statement.{statement}
 use Rattle.polynomial.proofs.evaluation.evaluation_of.Tie as tie
@@ -18,70 +17,41 @@ Inv-loop powers residues j q n acc₀ k₀ i₀ acc k i = Summed n powers residu
 abbrev μ-loop : tie.MeasureT-loop
 μ-loop powers residues j q n acc₀ k₀ i₀ acc k i = n - i
 
-readable : (c : tie.Start Inv-loop μ-loop) → Readable (c .args .p .n) (c .args .powers .now) (c .args .residues .now)
-readable c =
-    let asked = c .pre .0 in
-    record {
-      powers-size = asked .table .size;
-      residues-size = sym (length-map (c .args .residues .now) pos) ∙ asked .size;
-      few = asked .fitting .size;
-      small = λ i l. omega (arith, c .pre .1 .0 i l, asked .fitting .modulus);
-    }
-
-summed-by-four-requires : tie.Need-summed-by-four-requires Inv-loop μ-loop
-summed-by-four-requires c κs = (readable (c .before .before), c .before .before .pre .1 .1)
-
-loop-holds : tie.Need-loop-holds Inv-loop μ-loop
-loop-holds c = c .summed-by-four .ensures
-
-product-at-requires : tie.Need-product-at-requires Inv-loop μ-loop
-product-at-requires c κs =
-    let asked = readable (c .before .before .before .before .before) in
-    (omega (arith, asked .powers-size, c .before .loop .inv .inside), omega (arith, asked .residues-size), asked .small)
-
-add-acc : tie.Need-add-acc Inv-loop μ-loop
-add-acc c = record { fits = omega (arith, c .product-at .ensures .1, c .before .before .loop .inv .room, readable (c .before .before .before .before .before .before) .few) }
-
-turned-requires : tie.Need-turned-requires Inv-loop μ-loop
-turned-requires c κs =
-    let s = c .before .before .before .before .before .before in
-    (c .before .before .loop .inv .inside, s .pre .1 .1, omega (arith, readable s .few))
-
-add-i : tie.Need-add-i Inv-loop μ-loop
-add-i c = record { fits = omega (arith, readable (c .before .before .before .before .before .before .before) .few) }
-
 loop-again : tie.Need-loop-again Inv-loop μ-loop
 loop-again c =
-    let s = c .before .before .before .before .before .before .before in
     let l = c .before .before .before .loop in
+    let s = c .before .before .before .before .before in
     let j = s .args .j in
     let n = s .args .p .n in
     record {
       below = search needs;
-      inside = c .turned .ensures .1;
-      place = place-next (l .i) 1 j n (l .inv .place) (place-once j n (s .pre .1 .1)) (c .turned .ensures .0);
+      inside = c .add-mod .ensures .1;
+      place = place-next (l .i) 1 j n (l .inv .place) (place-once j n (s .pre .1 .1)) (c .add-mod .ensures .0);
       room = omega (arith, c .before .product-at .ensures .1, l .inv .room);
       value = ap (λ (x : ℕ). pos (l .acc + x)) (c .before .product-at .ensures .0)
           ∙ sum-next n (s .args .powers .now) (s .args .residues .now) j (l .i) refl (l .inv .place) (l .inv .value);
     }
 
 rem-result : tie.Need-rem-result Inv-loop μ-loop
-rem-result c = omega (arith, c .wide .ensures .0, c .before .before .before .before .before .before .pre .0 .sound .modulus)
+rem-result c = omega (arith, c .wide .ensures .0, c .before .before .before .before .pre .0 .sound .modulus)
 
 cast-result : tie.Need-cast-result Inv-loop μ-loop
 cast-result c =
-    let s = c .before .before .before .before .before .before in
+    let s = c .before .before .before .before in
     let h : 0 < c .wide .result = rem-result c in
     record { fits = omega (arith, c .wide .ensures .0, s .pre .0 .fitting .modulus, mod-lt (c .before .before .loop .acc) h) }
 
 returns : tie.Need-returns Inv-loop μ-loop
 returns c =
-    let s = c .before .before .before .before .before .before in
+    let s = c .before .before .before .before in
+    let usable = s .pre .0 in
     let l = c .before .before .loop in
-    ap (λ (w : ℕ). l .acc % w) (c .wide .ensures .0) ∙ sum-read (s .args .residues .now) (s .pre .0) (s .args .j) (l .i) (l .acc) (omega (arith, l .inv .below)) (l .inv .value)
+    ap (λ (w : ℕ). l .acc % w) (c .wide .ensures .0)
+    ∙ sum-read (usable .sound) (s .args .powers .now) (usable .table) (s .args .residues .now) (s .pre .1 .0 .room) (s .args .j) (l .i) (l .acc)
+    (omega (arith, l .inv .below)) (l .inv .value)
 
 pub evaluation-of-spec : {M : Type 1} → statement M
 evaluation-of-spec =
     tie.close
-    (tie.spec Inv-loop μ-loop summed-by-four-requires loop-holds product-at-requires add-acc turned-requires add-i (λ c. search needs) loop-again
-    (λ c κs. search needs) rem-result cast-result returns)
+    (tie.spec Inv-loop μ-loop (λ c κs. search needs) (λ c. search needs) (λ c κs. search needs) (λ c. search needs) (λ c κs. search needs)
+    (λ c. search needs) (λ c. search needs) loop-again (λ c κs. search needs) rem-result cast-result returns)

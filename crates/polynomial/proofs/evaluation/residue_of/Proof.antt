@@ -1,26 +1,20 @@
 -- `residue_of` meets its contract: a negative coefficient -(n + 1) has the residue q - 1 - n mod q.
 -- Assumes nothing.
 use mathlib.Core.Path.{_≡_, sym, ap, _∙_}
-use Prim.Native.Nat.{suc, _-_, _%_}
+use Prim.Native.Nat.{ℕ, suc, _-_, _%_, _≤_, _<_}
+use native.Mathlib.Nat.{mod-lt}
 use native.Mathlib.Omega.{arith}
 use lib.IntN.{ℤ, natAbs}
 use lib.Signed.{mag}
 use mir.Facts.{toZ-ofZ}
 use borrow.Author.Needs.{needs}
 use Rattle.algebra.specs.Integer.{residue}
-use Rattle.algebra.proofs.Remainder.{mod-below-pred}
 use Rattle.algebra.proofs.Signed.{negative, natural, complement-is, complement-read}
 use Rattle.polynomial.proofs.evaluation.residue_of.Statement.{statement}
 use Rattle.polynomial.proofs.evaluation.residue_of.Tie as tie
 
-sub-result-2 : tie.Need-sub-result-2
-sub-result-2 c = rw (complement-is (c .before .fits .a) (c .if1 .taken)) (record { sfits = c .before .fits .a .sfits })
-
-cast-result : tie.Need-cast-result
-cast-result c = rw (complement-read (c .before .fits .a) (c .if1 .taken)) (tt, omega (arith, c .before .fits .a .sfits))
-
-sub-result-3 : tie.Need-sub-result-3
-sub-result-3 c = mod-below-pred _ _ (c .before .pre)
+mod-below : (n q : ℕ) → 0 < q → n % q ≤ q - 1
+mod-below n q h = omega (arith, mod-lt n h)
 
 cast-result-2 : tie.Need-cast-result-2
 cast-result-2 c = rw (toZ-ofZ (c .before .fits .a), natural (c .before .fits .a) (c .if1 .left)) (tt, omega (arith, c .before .fits .a .sfits))
@@ -41,4 +35,6 @@ returns-2 c =
 pub residue-of-spec : {M : Type 1} → statement M
 residue-of-spec =
     tie.close
-    (tie.spec (λ c. search needs) sub-result-2 cast-result (λ c. search needs) sub-result-3 cast-result-2 (λ c. search needs) returns returns-2)
+    (tie.spec (λ c. search needs) (λ c. rw (complement-is (c .before .fits .a) (c .if1 .taken)) (record { sfits = c .before .fits .a .sfits }))
+    (λ c. rw (complement-read (c .before .fits .a) (c .if1 .taken)) (tt, omega (arith, c .before .fits .a .sfits))) (λ c. search needs)
+    (λ c. mod-below _ _ (c .before .pre)) cast-result-2 (λ c. search needs) returns returns-2)

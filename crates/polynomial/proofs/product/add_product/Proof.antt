@@ -3,32 +3,24 @@
 use Prim.Native.Nat.{_≤_}
 use native.Mathlib.Nat.{mul-le-mul}
 use native.Mathlib.Omega.{arith}
-use lib.IntN.{ℤ, natAbs, _+ℤ_, _*ℤ_}
+use lib.IntN.{natAbs, _+ℤ_, _*ℤ_}
 use mir.Facts.{toZ-ofZ, sfits-widen}
 use mir.Syntax.{w8, w16, w32}
 use mir.Val.{SFits}
 use Rattle.algebra.proofs.Absolute.{abs-add, abs-mul}
-use Rattle.algebra.proofs.Signed.{fits-signed}
-use Rattle.algebra.proofs.Signed.{widened}
+use Rattle.algebra.proofs.Signed.{fits-signed, widened}
 use Rattle.polynomial.proofs.product.add_product.Statement.{statement}
 use Rattle.polynomial.proofs.product.add_product.Tie as tie
 
-product-small : (a x : ℤ) → natAbs a ≤ 1 → natAbs x ≤ 1 → natAbs (a *ℤ x) ≤ 1
-product-small a x h l = omega (arith, abs-mul a x, mul-le-mul h l)
+module _ (c : tie.Start) where
+  small : natAbs (c .args .a *ℤ c .args .x) ≤ 1
+  small = omega (arith, abs-mul (c .args .a) (c .args .x), mul-le-mul (c .pre .1) (c .pre .2))
 
-product-fits : (c : tie.Start) → SFits w16 (c .args .a *ℤ c .args .x)
-product-fits c = fits-signed w16 _ (omega (arith, product-small (c .args .a) (c .args .x) (c .pre .1) (c .pre .2)))
+  product-fits : SFits w16 (c .args .a *ℤ c .args .x)
+  product-fits = fits-signed w16 _ (omega (arith, small))
 
-sum-fits : (c : tie.Start) → SFits w32 (c .args .z +ℤ c .args .a *ℤ c .args .x)
-sum-fits c =
-    fits-signed w32 _
-    (omega (arith, c .pre .0, abs-add (c .args .z) (c .args .a *ℤ c .args .x), product-small (c .args .a) (c .args .x) (c .pre .1) (c .pre .2)))
-
-cast-result : tie.Need-cast-result
-cast-result c = rw (toZ-ofZ (c .fits .a)) (sfits-widen {w = w8} {w′ = w16} tt (c .fits .a))
-
-mul-result : tie.Need-mul-result
-mul-result c = rw (widened (c .fits .a) w16 tt, toZ-ofZ (c .fits .x)) (product-fits c)
+  sum-fits : SFits w32 (c .args .z +ℤ c .args .a *ℤ c .args .x)
+  sum-fits = fits-signed w32 _ (omega (arith, c .pre .0, abs-add (c .args .z) (c .args .a *ℤ c .args .x), small))
 
 cast-result-2 : tie.Need-cast-result-2
 cast-result-2 c = rw (widened (c .fits .a) w16 tt, toZ-ofZ (c .fits .x), toZ-ofZ (product-fits c)) (sfits-widen {w = w16} {w′ = w32} tt (product-fits c))
@@ -40,4 +32,7 @@ returns : tie.Need-returns
 returns c = rw (widened (c .fits .a) w16 tt, toZ-ofZ (c .fits .x), toZ-ofZ (c .fits .z), widened (product-fits c) w32 tt) (toZ-ofZ (sum-fits c))
 
 pub add-product-spec : {M : Type 1} → statement M
-add-product-spec = tie.close (tie.spec cast-result mul-result cast-result-2 add-result returns)
+add-product-spec =
+    tie.close
+    (tie.spec (λ c. rw (toZ-ofZ (c .fits .a)) (sfits-widen {w = w8} {w′ = w16} tt (c .fits .a)))
+    (λ c. rw (widened (c .fits .a) w16 tt, toZ-ofZ (c .fits .x)) (product-fits c)) cast-result-2 add-result returns)

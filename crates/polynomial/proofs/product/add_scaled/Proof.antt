@@ -2,18 +2,20 @@
 -- Assumes nothing.
 use mathlib.Core.Path.{_≡_, sym, ap, ap₂, _∙_}
 use mathlib.Core.List.{List}
-use Prim.Native.Nat.{_≤_, _-_, _^_}
+use Prim.Native.Nat.{ℕ, _≤_, _<_, _-_, _^_}
+use native.Mathlib.Numerals.{add-one}
 use native.Mathlib.Omega.{arith}
-use lib.IntN.{ℤ, pos, _+ℤ_, _*ℤ_}
-use lib.ListN.{length, getD, set, take, length-set}
+use lib.IntN.{ℤ}
+use lib.ListN.{length, take, length-set}
 use lib.Seq.{take-all}
 use mir.Facts.{toZ-ofZ}
 use mir.Syntax.{w8, w16, w32}
 use mir.Val.{toZ, ofZ}
 use borrow.Author.Needs.{needs}
+use Rattle.algebra.proofs.Signed.{read-same}
 use Rattle.polynomial.specs.Polynomial.{coefficient, add, scale}
 use Rattle.polynomial.proofs.Bound.{within-coefficient}
-use Rattle.polynomial.proofs.Linear.{add-nil, added-first, added-next}
+use Rattle.polynomial.proofs.Linear.{add-nil, added-first, added-suc}
 use Rattle.polynomial.proofs.product.add_scaled.Statement.{statement}
 use Rattle.polynomial.proofs.product.add_scaled.Tie as tie
 
@@ -23,19 +25,20 @@ Inv-loop z₀ f a i₀ z i = (i ≤ length f) × (length z ≡ length f) × (z �
 abbrev μ-loop : tie.MeasureT-loop
 μ-loop z₀ f a i₀ z i = length f - i
 
-loop-holds : tie.Need-loop-holds Inv-loop μ-loop
-loop-holds c = (search needs, search needs, sym (add-nil (c .args .z .now)))
+-- what the code reads at i is z's coefficient before the loop
+unchanged : (z f h : List ℤ) (a : ℤ) (i : ℕ) → i < length z → h ≡ add z (scale a (take i f)) → coefficient h i ≡ coefficient z i
+unchanged z f h a i l e = ap (λ (g : List ℤ). coefficient g i) e ∙ added-first a z f i l
 
 add-product-requires : tie.Need-add-product-requires Inv-loop μ-loop
 add-product-requires c κs =
     let s = c .before .before .before .before in
     let l = c .before .before .before .loop in
     let z = s .args .z .now in
-    let f = s .args .f .now in
-    let e = ap (λ (h : List ℤ). coefficient h (l .i)) (l .inv .2) ∙ added-first (toZ w8 (ofZ w8 (s .args .a))) z f (l .i) (omega arith) in (
-      rw (toZ-ofZ {w = w32} {z = getD (l .z) (l .i) (pos 0)} (record { sfits = c .before .add-product-arg .given }), e) (omega (arith, within-coefficient (2 ^ 16) z (l .i) (s .pre .1))),
-      rw (toZ-ofZ (s .fits .a)) (s .pre .3),
-      rw (toZ-ofZ {w = w16} {z = getD f (l .i) (pos 0)} (record { sfits = c .add-product-arg2 .given })) (within-coefficient 1 f (l .i) (s .pre .2)),
+    let f = s .args .f .now in (
+      rw (read-same w32 (l .z) (l .i) (c .before .add-product-arg .given), unchanged z f (l .z) _ (l .i) (omega arith) (l .inv .2))
+          (omega (arith, within-coefficient (2 ^ 16) z (l .i) (s .pre .room))),
+      rw (toZ-ofZ (s .fits .a)) (s .pre .factor),
+      rw (read-same w16 f (l .i) (c .add-product-arg2 .given)) (within-coefficient 1 f (l .i) (s .pre .small)),
     )
 
 loop-again : tie.Need-loop-again Inv-loop μ-loop
@@ -44,16 +47,17 @@ loop-again c =
     let l = c .before .before .before .before .loop in
     let z = s .args .z .now in
     let f = s .args .f .now in
-    let a = toZ w8 (ofZ w8 (s .args .a)) in
-    let e = ap (λ (h : List ℤ). coefficient h (l .i)) (l .inv .2) ∙ added-first a z f (l .i) (omega arith) in (
+    let a = toZ w8 (ofZ w8 (s .args .a)) in (
       omega arith,
       simp length-set (l .inv .1),
-      ap₂ (λ (h : List ℤ) (v : ℤ). set h (l .i) v) (l .inv .2)
-          (toZ-ofZ {w = w32} {z = c .add-product .result} (record { sfits = c .add-product .ok }) ∙ c .add-product .ensures
-          ∙ ap₂ (λ (u v : ℤ). u +ℤ a *ℤ v)
-          (toZ-ofZ {w = w32} {z = getD (l .z) (l .i) (pos 0)} (record { sfits = c .before .before .add-product-arg .given }) ∙ e)
-          (toZ-ofZ {w = w16} {z = getD f (l .i) (pos 0)} (record { sfits = c .before .add-product-arg2 .given })))
-          ∙ added-next a z f (l .i) (omega arith) (omega arith),
+      cc (
+        toZ-ofZ {w = w32} {z = c .add-product .result} (record { sfits = c .add-product .ok }),
+        read-same w32 (l .z) (l .i) (c .before .before .add-product-arg .given),
+        unchanged z f (l .z) a (l .i) (omega arith) (l .inv .2),
+        read-same w16 f (l .i) (c .before .add-product-arg2 .given),
+        added-suc a z f (l .i) (omega arith) (omega arith),
+        add-one (l .i),
+      ),
     )
 
 returns : tie.Need-returns Inv-loop μ-loop
@@ -66,5 +70,6 @@ returns c =
 pub add-scaled-spec : {M : Type 1} → statement M
 add-scaled-spec =
     tie.close
-    (tie.spec Inv-loop μ-loop loop-holds (λ c. search needs) (λ c. search needs) (λ c. search needs) (λ c. search needs) add-product-requires
-    (λ c. search needs) (λ c. search needs) (λ c. search needs) (λ c. search needs) loop-again (λ c. search needs) returns)
+    (tie.spec Inv-loop μ-loop (λ c. (search needs, search needs, sym (add-nil (c .args .z .now)))) (λ c. search needs) (λ c. search needs)
+    (λ c. search needs) (λ c. search needs) add-product-requires (λ c. search needs) (λ c. search needs) (λ c. search needs) (λ c. search needs)
+    loop-again (λ c. search needs) returns)

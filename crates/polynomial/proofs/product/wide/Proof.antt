@@ -6,11 +6,7 @@ use Rattle.algebra.proofs.Signed.{widened}
 use Rattle.polynomial.proofs.product.wide.Statement.{statement}
 use Rattle.polynomial.proofs.product.wide.Tie as tie
 
-cast-result : tie.Need-cast-result
-cast-result c = rw (toZ-ofZ (c .fits .a)) (sfits-widen {w = w16} {w′ = w32} tt (c .fits .a))
-
-returns : tie.Need-returns
-returns c = widened (c .fits .a) w32 tt
-
 pub wide-spec : {M : Type 1} → statement M
-wide-spec = tie.close (tie.spec cast-result returns)
+wide-spec =
+    tie.close
+    (tie.spec (λ c. rw (toZ-ofZ (c .fits .a)) (sfits-widen {w = w16} {w′ = w32} tt (c .fits .a))) (λ c. widened (c .fits .a) w32 tt))

@@ -2,13 +2,13 @@
 -- Assumes nothing.
 use mathlib.Core.Path.{_≡_, refl, sym, _∙_}
 use Prim.Native.Nat.{_-_, _≤_}
+use native.Mathlib.Numerals.{add-one}
 use native.Mathlib.Omega.{arith}
 use lib.ListN.{length, take}
 use lib.Seq.{take-all}
 use Rattle.sha512.specs.Word.{add}
 use Rattle.sha512.specs.Compression.{sums}
 use Rattle.algebra.proofs.List.{grow-to}
-use Rattle.sha512.proofs.Loops.{sums-more}
 use borrow.Author.Needs.{needs}
 use Rattle.sha512.proofs.compression.word_sums.Statement.{statement}
 use Rattle.sha512.proofs.compression.word_sums.Tie as tie
@@ -19,14 +19,10 @@ Inv-loop s h r₀ i₀ r i = (i ≤ 8) × (length r ≡ 8) × (take i r ≡ sums
 abbrev μ-loop : tie.MeasureT-loop
 μ-loop s h r₀ i₀ r i = 8 - i
 
-loop-holds : tie.Need-loop-holds Inv-loop μ-loop
-unfolding sums
-loop-holds c = (search needs, search needs, refl)
-
 loop-again : tie.Need-loop-again Inv-loop μ-loop
-unfolding add
+unfolding add sums
 loop-again c = let l = c .before .before .loop in
-    (omega arith, search needs, grow-to (l .r) (l .i) (omega arith) (l .inv .2) (c .wrapping-add-u64 .ensures) (sums-more (l .i) _ _))
+    (omega arith, search needs, grow-to (l .r) (l .i) (omega arith) (l .inv .2) (c .wrapping-add-u64 .ensures) (rw add-one))
 
 returns : tie.Need-returns Inv-loop μ-loop
 returns c = let l = c .before .loop in
@@ -34,7 +30,8 @@ returns c = let l = c .before .loop in
     sym (take-all 8 (l .r) (omega arith)) ∙ rw e at (l .inv .2)
 
 pub word-sums-spec : {M : Type 1} → statement M
+unfolding sums
 word-sums-spec =
     tie.close
-    (tie.spec Inv-loop μ-loop loop-holds (λ c. search needs) (λ c. search needs) (λ c. search needs) (λ c. search needs) (λ c κs. search needs)
-    (λ c. search needs) (λ c. search needs) (λ c. search needs) (λ c. search needs) loop-again returns)
+    (tie.spec Inv-loop μ-loop (λ c. (search needs, search needs, refl)) (λ c. search needs) (λ c. search needs) (λ c. search needs) (λ c. search needs)
+    (λ c κs. search needs) (λ c. search needs) (λ c. search needs) (λ c. search needs) (λ c. search needs) loop-again returns)

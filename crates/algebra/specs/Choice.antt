@@ -1,8 +1,0 @@
--- A choice by a test: how the definitions put one rule before another.
--- Assumes nothing.
-use mathlib.Core.Bool.{Bool, true, false}
-
--- the first where the test holds, else the second
-abbrev pub pick : {A : Type 0} → Bool → A → A → A
-pick true a b = a
-pick false a b = b

@@ -1,0 +1,13 @@
+-- `public_key_refusal` meets its contract: the chain of tests is the definition's.
+-- Assumes nothing.
+use borrow.Author.Needs.{needs}
+use Rattle.codec.specs.Codec.{publicKeyListsRefusal}
+use Rattle.codec.proofs.public_key_refusal.Statement.{statement}
+use Rattle.codec.proofs.public_key_refusal.Tie as tie
+
+returns : tie.Need-returns
+unfolding publicKeyListsRefusal
+returns c = cc
+
+pub public-key-refusal-spec : {M : Type 1} → statement M
+public-key-refusal-spec = tie.close (tie.spec (λ c κs. search needs) (λ c κs. search needs) (λ c κs. search needs) (λ c κs. search needs) returns)

@@ -1,0 +1,266 @@
+-- One command, played with what is held, which is what is read: so it is after the command. What an accepted 06 signs with, what a refusal leaves, and
+-- how much the command adds to its row.
+-- Assumes nothing.
+use mathlib.Core.Path.{_≡_, refl, sym, ap, _∙_}
+use mathlib.Core.Bool.{Bool, true, false, not, _&&_, true≢false, cond}
+use mathlib.Core.List.{List, [], _∷_, _++_, map}
+use mathlib.Core.Option.{Option, some}
+use Prim.Native.Nat.{ℕ, suc, _+_, _*_, _≤_, _<_}
+use native.Mathlib.Omega.{arith}
+use lib.Dec.{T, leb, eqb}
+use lib.IntN.{ℤ}
+use lib.ListN.{length, getD, drop, length-append, length-map, length-drop}
+use borrow.Author.Tests.{ltb-true, leb-false, eqb-true, eqb-false, eq-eqb, not-false}
+use Rattle.algebra.specs.All.{all}
+use Rattle.algebra.proofs.All.{all-append, all-drop}
+use Rattle.algebra.proofs.Test.{holds-true, true-holds, cond-by, by-test}
+use Rattle.algebra.specs.Integer.{within}
+use Rattle.parameters.specs.declared.Params.{Params}
+use Rattle.parameters.specs.Sets.{isSet}
+use Rattle.polynomial.proofs.EvaluationLaws.{length-evaluations, evaluations-below}
+use Rattle.encoding.specs.Bytes.{numbers, signed16}
+use Rattle.encoding.specs.Encoding.{isKeyByte, keyCoefficient, areExponents, areEvaluations}
+use Rattle.encoding.proofs.Parts.{length-numbers}
+use Rattle.refusal.specs.Numbers.{nonePasses}
+use Rattle.refusal.specs.declared.Signing.{Signing}
+use Rattle.refusal.specs.declared.Signing.the-variants as signing
+use Rattle.refusal.specs.declared.Verdict.{Verdict}
+use Rattle.refusal.specs.declared.Verdict.the-variants as verdict
+use Rattle.signing.specs.Sign.{signAnswer, signWritten}
+use Rattle.passign.specs.Hiding.{ourLibrary}
+use Rattle.text.specs.Text.{decimal, hex, spaced}
+use Rattle.text.proofs.Text.{length-decimal, length-hex, length-spaced-numbers}
+use Rattle.session_rules.specs.Held.{Chosen, paramsOf, Held, isHeld, given, withMasks}
+use Rattle.session_rules.specs.CommandTable.{commandTable, commandOf, forLoading, forSigning, forChecking}
+use Rattle.session_rules.specs.Commands.{Payload, nothing, signed, Result, accepted, refused, keyEvaluations, maskOf, commandIn, command}
+use Rattle.session_rules.specs.Commands.{chooseSet, loadExponents, loadKey, loadMask, loadMessage, loadEvaluations}
+use Rattle.session_rules.specs.Commands.{afterSigning, callSigning, sign, afterCheck, check}
+use Rattle.session_rules.specs.Rows.{payloadText}
+use Rattle.session_rules.specs.Play.{lacksSet}
+use Rattle.session_rules.specs.Plays.{Event, Material, paramsIn, readSet, callWith, chosenBy, firstPassing, withAccepted, withCommand}
+use Rattle.session_rules.specs.HeldIsRead.{Available, availableWithAccepted, availableWith}
+use Rattle.session_rules.specs.Refusals.{isEnding}
+use Rattle.session_rules.proofs.CommandTable.{by-known, needs-set, command-set, command-in}
+use Rattle.session_rules.proofs.Kept.{TestedSet, isMask, Kept, gone, kept, kept-as, needed, KeptAll}
+use Rattle.session_rules.proofs.Kept.{keep-exponents, keep-key, keep-evaluations, keep-message, keep-masks, only-set}
+use Rattle.session_rules.proofs.Library.{sound, fitting, sign-refused, check-refused}
+use Rattle.session_rules.proofs.Signature.{signature-size}
+
+-- a command that was played; what is read of it does not look at its buffer
+abbrev pub played : ℕ → List ℕ → ℕ → Event
+played b op n = record { byte = b; operand = op; number = n; buffer = [] }
+
+-- the library's signing with the material, its answer and its bytes
+module _ (m : Material) where
+  abbrev pub answerWith : Signing
+  answerWith = ourLibrary .signs (callWith m)
+
+  abbrev pub bytesWith : List ℕ
+  bytesWith = ourLibrary .writes (callWith m)
+
+  -- it accepts, by the first mask that passes, and the row has its bytes
+  pub record SignedWith (x : Payload) : Type 0 where
+    pub answer : answerWith ≡ signing.Signed (firstPassing m)
+    pub payload : x ≡ signed (firstPassing m) bytesWith
+
+-- a refusal leaves what is held, save that 9 drops all masks, has its number alone, and ends the session with an ending number only
+pub record RefusalFacts (h : Held) (ended : Bool) (d : Result) : Type 0 where
+  pub leaves : d .held ≡ cond (eqb (d .number) nonePasses) (withMasks h []) h
+  pub alone : d .payload ≡ nothing
+  pub ends : ended ≡ isEnding (d .number)
+
+-- what is held after a command is what is read, an accepted 06 signs with the material, an accepted 00 alone ends the session, and the row has room: fewer than
+-- 1,153 evaluations of eleven bytes each, or a signature of at most 2,435 bytes in hex
+pub record CommandFacts (m : Material) (a : Available) (h : Held) (b : ℕ) (op : List ℕ) (ended : Bool) (d : Result) : Type 0 where
+  pub keeps : KeptAll (withCommand m (played b op (d .number))) (availableWith m a (played b op (d .number))) (d .held)
+  pub signs : b ≡ 6 → d .number ≡ 0 → SignedWith m (d .payload)
+  pub refusal : (d .number ≡ 0 → ⊥) → RefusalFacts h ended d
+  pub accepted-ends : d .number ≡ 0 → ended ≡ eqb b 0
+  pub short : length (payloadText (d .payload)) ≤ 12700
+
+module _ (m : Material) (a : Available) (h : Held) (w : KeptAll m a h) (op : List ℕ) where
+  -- a refusal other than 9 leaves all as it was
+  pub refused-facts : (b n : ℕ) {ended : Bool} → eqb n 0 ≡ false → eqb n 9 ≡ false → ended ≡ isEnding n → CommandFacts m a h b op ended (refused n h)
+  unfolding withCommand availableWith
+  refused-facts b n z q e = record {
+    keeps = rw (z, q) w;
+    signs = λ s y. absurd (eqb-false n 0 z y);
+    refusal = λ y. record { leaves = rw q; alone = refl; ends = e };
+    accepted-ends = λ y. absurd (eqb-false n 0 z y);
+    short = omega arith;
+  }
+
+  -- an accepted command other than 06
+  pub accepted-facts : (b : ℕ) {ended : Bool} {next : Held} {x : Payload} → eqb b 6 ≡ false → ended ≡ eqb b 0 → length (payloadText x) ≤ 12700
+      → KeptAll (withCommand m (played b op 0)) (availableWith m a (played b op 0)) next → CommandFacts m a h b op ended (accepted next x)
+  accepted-facts b other ends short keeps = record {
+    keeps = keeps;
+    signs = λ s y. absurd (eqb-false b 6 other s);
+    refusal = λ y. absurd (y refl);
+    accepted-ends = λ y. ends;
+    short = short;
+  }
+
+  -- a command that goes on
+  abbrev Facts : ℕ → Result → Type 0
+  Facts b d = CommandFacts m a h b op false d
+
+  -- a test of a command, with the refusal n
+  unless : (b n : ℕ) → eqb n 0 ≡ false → eqb n 9 ≡ false → false ≡ isEnding n → (x : Bool) {d : Result} → (x ≡ true → Facts b d)
+      → Facts b (cond (not x) (refused n h) d)
+  unless b n z q e x f = cond-by (Facts b) (not x) (λ t. refused-facts b n z q e) (λ t. f (not-false x t))
+
+  set-facts : Facts 1 (chooseSet h op)
+  unfolding chooseSet withCommand withAccepted availableWith availableWithAccepted
+  set-facts =
+      let byte = getD op 0 0 in
+      unless 1 2 refl refl refl (isSet byte)
+      (λ e. accepted-facts 1 refl refl (omega arith)
+      (only-set (readSet m (chosenBy byte)) (a .values) (kept (record { known = ltb-true byte 5 e; own = refl }))))
+
+  -- in the set read
+  module _ (s : TestedSet (m .set)) where
+    abbrev p : Params
+    p = paramsIn m
+
+    abbrev c : Chosen
+    c = m .set
+
+    exponents-facts : Facts 2 (loadExponents c h op)
+    unfolding loadExponents withCommand withAccepted availableWith availableWithAccepted
+    exponents-facts =
+        let js = numbers 2 (p .t) op in
+        unless 2 4 refl refl refl (areExponents p js)
+        (λ e. accepted-facts 2 refl refl (omega arith)
+        (keep-evaluations (keep-key (keep-exponents w js (kept (record { size = length-numbers 2 (p .t) op; rise = e }))) _ gone) _ gone))
+
+    key-facts : T (isHeld (h .exponents)) → length op ≡ p .n → Facts 3 (loadKey c h op)
+    unfolding loadKey withCommand withAccepted availableWith availableWithAccepted
+    key-facts j size =
+        let (same, tested) = needed (w .exponents) j in
+        let vs = keyEvaluations p (given (h .exponents)) op in
+        let count = length-evaluations p (map keyCoefficient op) (given (h .exponents)) ∙ tested .size in
+        let below = evaluations-below (sound s) (map keyCoefficient op) (given (h .exponents)) in
+        unless 3 5 refl refl refl (all isKeyByte op)
+        (λ e. accepted-facts 3 refl refl
+        (omega (arith, length-spaced-numbers (p .q) vs (omega (arith, fitting s .modulus)) below, count, fitting s .exponents, fitting s .size))
+        (keep-evaluations (keep-key w op (kept (record { size = size; bytes = e }))) _
+        (kept-as (ap (λ (l : List ℕ). keyEvaluations p l op) same) (record { size = count; below = holds-true (areEvaluations p vs) below }))))
+
+    mask-facts : Facts 4 (loadMask c h op)
+    unfolding loadMask withCommand withAccepted availableWith availableWithAccepted
+    mask-facts =
+        let y = maskOf p op in
+        let count = length-map (numbers 2 (p .n) op) signed16 ∙ length-numbers 2 (p .n) op in
+        cond-by (Facts 4) (leb 8 (length (h .masks))) (λ f. refused-facts 4 8 refl refl refl)
+        (λ f. unless 4 6 refl refl refl (within (p .k) y)
+        (λ e. accepted-facts 4 refl refl (omega arith)
+        (keep-masks w (ap (λ (l : List (List ℤ)). l ++ (y ∷ [])) (w .masks .0)) (record {
+          each =
+              rw (
+                all-append (isMask p) (h .masks) (y ∷ []),
+                holds-true (all (isMask p) (h .masks)) (w .masks .1 .each),
+                eq-eqb (length y) (p .n) count,
+                e,
+              )
+              tt;
+          few = omega (arith, length-append (h .masks) (y ∷ []), leb-false 8 (length (h .masks)) f);
+        }))))
+
+    message-facts : length op ≡ 64 → Facts 5 (loadMessage c h op)
+    unfolding loadMessage withCommand withAccepted availableWith availableWithAccepted
+    message-facts size = accepted-facts 5 refl refl (omega arith) (keep-message w op (kept (record { size = size })))
+
+    first-signs : {i : ℕ} → answerWith m ≡ signing.Signed i → firstPassing m ≡ i
+    unfolding firstPassing
+    first-signs e = rw e
+
+    -- the library answers with what is held, which is the material
+    after-answer : (x : Signing) (bytes : List ℕ) → answerWith m ≡ x → bytes ≡ bytesWith m → ((n : ℕ) → answerWith m ≡ signing.Refused n → n ≡ 9)
+        → Facts 6 (afterSigning c h x bytes)
+    unfolding withCommand withAccepted availableWith availableWithAccepted
+    after-answer (signing.Signed i) bytes e b nine = record {
+      keeps = rw (first-signs e) (keep-masks w (ap (drop (suc i)) (w .masks .0)) (record {
+        each = all-drop (isMask p) (suc i) (h .masks) (w .masks .1 .each);
+        few = omega (arith, length-drop (suc i) (h .masks), w .masks .1 .few);
+      }));
+      signs = λ s z. record { answer = rw (first-signs e) e; payload = rw (first-signs e, b) };
+      refusal = λ z. absurd (z refl);
+      accepted-ends = λ z. refl;
+      short =
+          let size = rw (← b, ← s .own) at (signature-size (callWith m) e) in
+          omega (arith, length-append (spaced (decimal i)) (spaced (hex bytes)), length-decimal i, length-hex bytes, fitting s .size, fitting s .weight);
+    }
+    after-answer (signing.Refused n) bytes e b nine =
+        rw (nine n e) (record {
+          keeps = keep-masks w refl (record { each = tt; few = omega arith });
+          signs = λ s z. absurd (omega arith);
+          refusal = λ z. record { leaves = refl; alone = refl; ends = refl };
+          accepted-ends = λ z. absurd (omega arith);
+          short = omega arith;
+        })
+
+    -- three things needed
+    three : (x y z : Bool) → T (x && (y && z)) → T x × (T y × T z)
+    three true true true t = (tt, (tt, tt))
+
+    sign-facts : T (forSigning h) → Facts 6 (sign c h)
+    unfolding sign
+    sign-facts n =
+        let (j, (k, t)) = three (isHeld (h .exponents)) (isHeld (h .key)) (isHeld (h .message)) n in
+        let (js, exponents) = needed (w .exponents) j in
+        let (ks, key) = needed (w .key) k in
+        let (ts, message) = needed (w .message) t in
+        let same : answerWith m ≡ callSigning c h signAnswer = rw (js, ks, ts, w .masks .0) in
+        after-answer (callSigning c h signAnswer) (callSigning c h signWritten) same (rw (js, ks, ts, w .masks .0))
+        (λ n e. sign-refused s key exponents (w .masks .1) message n (sym same ∙ e))
+
+    after-check : (x : Verdict) → ((n : ℕ) → x ≡ verdict.Refused n → n ≡ 12) → Facts 7 (afterCheck c h x)
+    unfolding withCommand withAccepted availableWith availableWithAccepted
+    after-check verdict.Yes twelve = accepted-facts 7 refl refl (omega (arith, length-decimal 1)) w
+    after-check verdict.No twelve = accepted-facts 7 refl refl (omega (arith, length-decimal 0)) w
+    after-check (verdict.Refused n) twelve = rw (twelve n refl) (refused-facts 7 12 refl refl refl)
+
+    check-facts : T (forChecking h) → length op ≡ 2 * p .b + 2 * p .n → Facts 7 (check c h op)
+    unfolding check
+    check-facts n size =
+        let (j, (v, t)) = three (isHeld (h .exponents)) (isHeld (h .evaluations)) (isHeld (h .message)) n in
+        after-check _ (check-refused s (needed (w .exponents) j .1) (needed (w .evaluations) v .1) (needed (w .message) t .1) op size)
+
+    evaluations-facts : Facts 8 (loadEvaluations c h op)
+    unfolding loadEvaluations withCommand withAccepted availableWith availableWithAccepted
+    evaluations-facts =
+        let vs = numbers 3 (p .t) op in
+        unless 8 7 refl refl refl (areEvaluations p vs)
+        (λ e. accepted-facts 8 refl refl (omega arith)
+        (keep-evaluations (keep-key w _ gone) vs (kept (record { size = length-numbers 3 (p .t) op; below = e }))))
+
+    -- 02 to 08
+    in-set-facts : (b : ℕ) → b < 9 → 1 < b → length op ≡ commandOf b .size p → Facts b (commandIn c h b op)
+    unfolding commandIn commandOf commandTable
+    in-set-facts =
+        by-known (λ (b : ℕ). 1 < b → length op ≡ commandOf b .size p → Facts b (commandIn c h b op))
+        (λ l. absurd (omega arith))
+        (λ l. absurd (omega arith))
+        (λ l size. exponents-facts)
+        (λ l size. unless 3 10 refl refl refl (forLoading h) (λ n. key-facts (true-holds n) size))
+        (λ l size. mask-facts)
+        (λ l. message-facts)
+        (λ l size. unless 6 10 refl refl refl (forSigning h) (λ n. sign-facts (true-holds n)))
+        (λ l size. unless 7 10 refl refl refl (forChecking h) (λ n. check-facts (true-holds n) size))
+        (λ l size. unless 8 10 refl refl refl (forLoading h) (λ n. evaluations-facts))
+
+  -- 02 to 08 where a set is held, if they need one
+  in-force : (b : ℕ) → b < 9 → 1 < b → {x : Bool} {o : Option Chosen} → Kept TestedSet (m .set) x o → lacksSet b o ≡ false
+      → length op ≡ commandOf b .size (paramsOf o) → (o ≡ some (m .set)) × Facts b (commandIn (m .set) h b op)
+  in-force b high low gone lacks size = absurd (true≢false (rw (needs-set b high low) at lacks))
+  in-force b high low (kept s) lacks size = (refl, in-set-facts s b high low size)
+
+  -- 01 to 08, with an operand of its size
+  pub command-facts : (b : ℕ) → b < 9 → (b ≡ 0 → ⊥) → lacksSet b (h .set) ≡ false → length op ≡ commandOf b .size (paramsOf (h .set))
+      → Facts b (command h b op)
+  command-facts b high nonzero lacks size =
+      by-test (eqb b 1) (λ e. rw (eqb-true b 1 e, command-set h op) set-facts)
+      (λ e.
+      let (set, facts) = in-force b high (omega (arith, eqb-false b 1 e)) (w .set) lacks size in
+      rw (command-in h b op (m .set) set (eqb-false b 1 e)) facts)
