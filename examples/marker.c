@@ -6,7 +6,7 @@
 #include <stdlib.h>
 
 /* One byte more than the longest message, so that a longer one is seen and refused. */
-enum { ROOM = 65536 };
+enum { ROOM = PASSIGN_MAX_MESSAGE + 1 };
 struct input { uint8_t bytes[ROOM]; size_t length; };
 static struct input key, message, signature;
 
@@ -28,11 +28,11 @@ static void read_file(struct input *in, const char *name)
 static const char *meaning(uint32_t refusal)
 {
     switch (refusal) {
-    case 1: return "the public key or the signature is empty or not of its set's length, or the message has more than 65,535 bytes";
-    case 2: return "the key's first byte is no set 0 to 4, or the signature's is another set";
-    case 4: return "the public key's exponents are not strictly increasing in 1..N-1";
-    case 7: return "an evaluation of the public key is not below q";
-    case 12: return "a challenge index of the signature is not below N, or not increasing";
+    case PASSIGN_WRONG_LENGTH: return "the public key or the signature is empty or not of its set's length, or the message has more than 65,535 bytes";
+    case PASSIGN_WRONG_SET: return "the key's first byte is no set 0 to 4, or the signature's is another set";
+    case PASSIGN_WRONG_EXPONENTS: return "the public key's exponents are not strictly increasing in 1..N-1";
+    case PASSIGN_WRONG_EVALUATION: return "an evaluation of the public key is not below q";
+    case PASSIGN_WRONG_ENTRIES: return "a challenge index of the signature is not below N, or not increasing";
     default: return "not a refusal of passign_check: header and archive do not fit";
     }
 }
@@ -47,12 +47,12 @@ int main(int argc, char **argv)
     read_file(&message, argv[2]);
     read_file(&signature, argv[3]);
     uint32_t answer = passign_check(key.bytes, key.length, message.bytes, message.length, signature.bytes, signature.length);
-    if (answer == 256 || answer == 0) {
-        if (puts(answer == 256 ? "yes" : "no") == EOF || fflush(stdout) != 0) {
+    if (answer == PASSIGN_YES || answer == PASSIGN_NO) {
+        if (puts(answer == PASSIGN_YES ? "yes" : "no") == EOF || fflush(stdout) != 0) {
             fprintf(stderr, "marker: cannot write the row: see to standard output, and mark again\n");
             return 2;
         }
-        return answer == 256 ? 0 : 1;
+        return answer == PASSIGN_YES ? 0 : 1;
     }
     fprintf(stderr, "marker: refused with %u: %s\n", (unsigned)answer, meaning(answer));
     return 2;

@@ -1,11 +1,7 @@
 /* PASSign for C: link target/staticlib/libpassign_c.a, which `rt staticlib passign_c` builds.
 
-   Every function takes any contents and any lengths. What is not allowed is refused with a number below 256, and a refused call writes nothing:
-     1 a wrong length, or a message above 65,535 bytes     2 set not 0..4, or sets that differ
-     4 exponents out of 1..N-1 or not increasing           5 key value not allowed
-     6 mask coefficient outside -k..k                      7 evaluation not below q
-     9 no mask, or none passes                            11 pool spent
-    12 challenge index not below N, or not increasing
+   Every function takes any contents and any lengths. What is not allowed is refused with a number below 256 (PASSIGN_WRONG_LENGTH and those after it),
+   and a refused call writes nothing.
 
    A slice is a pointer and its length in elements. The pointer is not null, also where the length is 0, is aligned for its elements, and all of
    the slice may be read, or written for a result; a result buffer overlaps no other slice. Nothing checks these. The archive is for x86-64.
@@ -30,11 +26,39 @@
 #include <stddef.h>
 #include <stdint.h>
 
+/* The refusal numbers. */
+#define PASSIGN_WRONG_LENGTH 1     /* a list, pool or buffer of the wrong length, an empty encoding, or a message above 65,535 bytes */
+#define PASSIGN_WRONG_SET 2        /* set not 0..4, or sets that differ */
+#define PASSIGN_WRONG_EXPONENTS 4  /* exponents out of 1..N-1, or not increasing */
+#define PASSIGN_WRONG_KEY 5        /* key value not allowed */
+#define PASSIGN_WRONG_MASK 6       /* mask coefficient outside -k..k */
+#define PASSIGN_WRONG_EVALUATION 7 /* evaluation not below q */
+#define PASSIGN_NONE_PASSES 9      /* no mask, or none passes */
+#define PASSIGN_POOL_SPENT 11      /* fewer than b indices kept in all of the pool */
+#define PASSIGN_WRONG_ENTRIES 12   /* challenge index not below N, or not increasing */
+
+/* What passign_check answers where it refuses nothing; passign_sign answers PASSIGN_SIGNED plus the number of masks passed over. */
+#define PASSIGN_NO 0
+#define PASSIGN_YES 256
+#define PASSIGN_SIGNED 256
+
+/* Limits: bytes of a message, masks of a signing. */
+#define PASSIGN_MAX_MESSAGE 65535
+#define PASSIGN_MAX_MASKS 8
+
+/* The bytes of each encoding in a set with these numbers, and room for those of every set. */
+#define PASSIGN_SECRET_KEY_SIZE(N) (1 + (N))
+#define PASSIGN_PUBLIC_KEY_SIZE(t) (1 + 5 * (t))
+#define PASSIGN_SIGNATURE_SIZE(N, b) (1 + 2 * (b) + 2 * (N))
+#define PASSIGN_MAX_SECRET_KEY PASSIGN_SECRET_KEY_SIZE(1153)
+#define PASSIGN_MAX_PUBLIC_KEY PASSIGN_PUBLIC_KEY_SIZE(600)
+#define PASSIGN_MAX_SIGNATURE PASSIGN_SIGNATURE_SIZE(1153, 36)
+
 #ifdef __cplusplus
 extern "C" {
 #endif
 
-/* Checks a signature: 256 for yes, 0 for no, else the refusal number (1, 2, 4, 7, 12). Only 256 is a yes. */
+/* Checks a signature: PASSIGN_YES (256), PASSIGN_NO (0), else the refusal number (1, 2, 4, 7, 12). Only 256 is a yes. */
 uint32_t passign_check(const uint8_t *public_key, size_t public_key_length, const uint8_t *message, size_t message_length,
                        const uint8_t *signature, size_t signature_length);
 

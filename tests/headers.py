@@ -1,4 +1,5 @@
-"""The C headers against the functions that the crates export: names, order and types of the arguments, and results. No compiler sees both sides."""
+"""The C headers against the functions that the crates export: names, order and types of the arguments, and results; and the refusal numbers by name.
+No compiler sees both sides."""
 
 import re
 
@@ -38,8 +39,26 @@ def exported(code):
     return functions
 
 
+def in_capitals(name):
+    return re.sub(r"[A-Z]", lambda letter: "_" + letter.group(), name).upper()
+
+
+def numbers_agree():
+    """The refusal numbers by name: of the definitions, of the code, and those of the header, which has the library's."""
+    definitions = {in_capitals(name): number for name, number in
+                   re.findall(r"^(\w+) = (\d+)$", (REPOSITORY / "crates/refusal/specs/Numbers.antt").read_text(), re.MULTILINE)}
+    code = dict(re.findall(r"pub const (\w+): u32 = (\d+);", (REPOSITORY / "crates/refusal/src/lib.rt").read_text()))
+    header = {name: number for name, number in re.findall(r"#define PASSIGN_(\w+) (\d+)", (REPOSITORY / "include/passign.h").read_text()) if name in code}
+    if definitions != code or len(header) != 9 or any(code[name] != number for name, number in header.items()):
+        print(f"headers: DIFFERENCE in refusal numbers: definitions {definitions}, code {code}, header {header}")
+        return False
+    return True
+
+
 def run():
     """True when all agree."""
+    if not numbers_agree():
+        return False
     count = 0
     for header, crate in HEADERS.items():
         found = declared((REPOSITORY / header).read_text())
