@@ -1,5 +1,6 @@
 -- Hiding for a list of signings: for every list of other keys, one for each signing, exactly one list of masks does at every place what the signing
--- there did, and at every place the check says yes. A list with no signing has the empty list of masks.
+-- there did, it is z minus the product of the other key and the challenge at every place, and at every place the check says yes. A list with no signing has
+-- the empty list of masks.
 -- Assumes nothing.
 use mathlib.Core.Path.{_≡_, refl, sym, ap₂, subst}
 use mathlib.Core.List.{List, [], _∷_, zipWith, Forall₂, Forall₂·nil, Forall₂·cons}
@@ -9,7 +10,7 @@ use lib.IntN.{ℤ}
 use Rattle.parameters.specs.declared.Params.{Params}
 use Rattle.scheme.specs.Scheme.{Drawer}
 use Rattle.passign.specs.Hiding.{Encodable, Library, anyLibrary, ourLibrary, SigningRecord, paramsOf, Accepted, Same, maskFor}
-use Rattle.passign.specs.Hiding.{Every, Each₃, Hidden, HiddenExactly}
+use Rattle.passign.specs.Hiding.{Every, Each₃, Hidden}
 use Rattle.passign.proofs.AsDefined.{AsDefined, any-as-defined, ours-as-defined}
 use Rattle.passign.proofs.OtherMask.{same-iff}
 use Rattle.passign.proofs.Hiding.{exactly-one, checked-yes}
@@ -48,33 +49,22 @@ each-map f (Forall₂·cons {a = a} {b = b} {l₁ = l} {l₂ = bs} t ts) p = For
 
 -- ---- from one signing to lists
 
-module _ (l : Library) (ms : List SigningRecord) (f : Every (AsDefined l) ms) where
-  hidden-exactly : HiddenExactly l ms
-  hidden-exactly others o = each-exactly (Same l) (maskFor l) (each-map (λ m f. same-iff f) o f)
+hidden : (l : Library) (ms : List SigningRecord) → Every (AsDefined l) ms → Hidden l ms
+hidden l ms f others o =
+    let exactly = each-exactly (Same l) (maskFor l) (each-map (λ m f. same-iff f) o f) in
+    record { one = exactly-one (zipWith (maskFor l) ms others) exactly; exactly = exactly; yes = each-map (λ m f. checked-yes f) o f }
 
-  hidden : Hidden l ms
-  hidden others o = (exactly-one (zipWith (maskFor l) ms others) (hidden-exactly others o), each-map (λ m f. checked-yes f) o f)
+-- any numbering of sets, with any way to draw
+pub hiding-of-many : (set : ℕ → Params) (draw : Drawer) (ms : List SigningRecord)
+    → Every (λ (m : SigningRecord). Encodable draw (paramsOf (anyLibrary set draw) m) × Accepted (anyLibrary set draw) m) ms
+    → Hidden (anyLibrary set draw) ms
+hiding-of-many set draw ms accepted = hidden (anyLibrary set draw) ms (every-map (λ m a. any-as-defined m (a .0) (a .1)) ms accepted)
 
--- ---- any numbering of sets, with any way to draw
-
-module _ (set : ℕ → Params) (draw : Drawer) (ms : List SigningRecord)
-    (accepted : Every (λ (m : SigningRecord). Encodable draw (paramsOf (anyLibrary set draw) m) × Accepted (anyLibrary set draw) m) ms) where
-  pub hiding-of-many : Hidden (anyLibrary set draw) ms
-  hiding-of-many = hidden (anyLibrary set draw) ms (every-map (λ m a. any-as-defined m (a .0) (a .1)) ms accepted)
-
-  pub hiding-of-many-exactly : HiddenExactly (anyLibrary set draw) ms
-  hiding-of-many-exactly = hidden-exactly (anyLibrary set draw) ms (every-map (λ m a. any-as-defined m (a .0) (a .1)) ms accepted)
-
--- ---- the entries `sign` and `check`, each signing in one of the five sets
-
-module _ (ms : List SigningRecord) (accepted : Every (Accepted ourLibrary) ms) where
-  pub entry-hiding-of-many : Hidden ourLibrary ms
-  entry-hiding-of-many = hidden ourLibrary ms (every-map ours-as-defined ms accepted)
-
-  pub entry-hiding-of-many-exactly : HiddenExactly ourLibrary ms
-  entry-hiding-of-many-exactly = hidden-exactly ourLibrary ms (every-map ours-as-defined ms accepted)
+-- the entries `sign` and `check`, each signing in one of the five sets
+pub entry-hiding-of-many : (ms : List SigningRecord) → Every (Accepted ourLibrary) ms → Hidden ourLibrary ms
+entry-hiding-of-many ms accepted = hidden ourLibrary ms (every-map ours-as-defined ms accepted)
 
 -- no signing: the empty list of masks, and no other
 pub no-mask-for-none : (l : Library) (ys : List (List ℤ)) → Each₃ (Same l) [] [] ys ↔ (ys ≡ [])
 unfolding zipWith
-no-mask-for-none l = hidden-exactly l [] tt [] Forall₂·nil
+no-mask-for-none l = hidden l [] tt [] Forall₂·nil .exactly

@@ -164,15 +164,15 @@ Each₃ R (a ∷ l) [] cs = ⊥
 Each₃ R (a ∷ l) (b ∷ bs) [] = ⊥
 Each₃ R (a ∷ l) (b ∷ bs) (c ∷ cs) = R a b c × Each₃ R l bs cs
 
--- demand 3 of a list of signings: for every list of other keys, one for each, exactly one list of masks, one for each, does at every place what the
--- signing there did, and the check says yes at every place
-abbrev pub Hidden : Library → List SigningRecord → Type 0
-Hidden l ms =
-    (others : List (List ℕ)) → Forall₂ (OtherKey l) ms others
-    → ExactlyOne (λ (ys : List (List ℤ)). Each₃ (Same l) ms others ys) × Forall₂ (CheckedYes l) ms others
+-- a list of signings, and other keys in their place, one for each
+pub record HiddenAmong (l : Library) (ms : List SigningRecord) (others : List (List ℕ)) : Type 0 where
+  -- exactly one list of masks, one for each, does at every place what the signing there did
+  pub one : ExactlyOne (λ (ys : List (List ℤ)). Each₃ (Same l) ms others ys)
+  -- it is z minus the product ⋆ of the other key and the challenge at every place, and no other
+  pub exactly : (ys : List (List ℤ)) → Each₃ (Same l) ms others ys ↔ (ys ≡ zipWith (maskFor l) ms others)
+  -- the check says yes at every place
+  pub yes : Forall₂ (CheckedYes l) ms others
 
--- and the masks that do so are z minus the product ⋆ of the other key and the challenge at every place, and no others
-abbrev pub HiddenExactly : Library → List SigningRecord → Type 0
-HiddenExactly l ms =
-    (others : List (List ℕ)) → Forall₂ (OtherKey l) ms others
-    → (ys : List (List ℤ)) → Each₃ (Same l) ms others ys ↔ (ys ≡ zipWith (maskFor l) ms others)
+-- demand 3 of a list of signings, for every list of other keys
+abbrev pub Hidden : Library → List SigningRecord → Type 0
+Hidden l ms = (others : List (List ℕ)) → Forall₂ (OtherKey l) ms others → HiddenAmong l ms others

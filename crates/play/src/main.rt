@@ -1,11 +1,14 @@
 // Plays a session file from standard input to its end, and writes each row to standard output.
-ghost use Prim.Native.Nat.{_<_, _≤_};
-ghost use lib.ListN.{length};
+ghost use mathlib.Core.Path.{_≡_};
+ghost use Rattle.session_rules.specs.Play.{isRow};
+ghost use Rattle.session.specs.Session.{playAnswerOf};
+ghost use Rattle.session.specs.WholeFile.{PlayedWhole};
 use libc::STDIN_FILENO;
 use libc::STDOUT_FILENO;
 use parameters::ROW_ROOM;
 use session::PlayAnswer;
 use session::Played;
+use session::Session;
 use session::open;
 use session::play;
 use session::row_size;
@@ -17,7 +20,9 @@ fn print_row(rows: &[u8]) {
 }
 
 // Writes the row of a play that wrote one, and says whether it did.
-fn show(answer: PlayAnswer, rows: &[u8]) -> bool {
+fn show(answer: PlayAnswer, rows: &[u8]) -> bool
+    ensures { λ r. ⌜ r ≡ isRow (playAnswerOf answer) ⌝ }
+{
     match answer {
         PlayAnswer::Row(_) => {
             print_row(rows);
@@ -28,29 +33,22 @@ fn show(answer: PlayAnswer, rows: &[u8]) -> bool {
     }
 }
 
-// How many plays are left after one: none where it wrote no row, since the session had ended.
-fn left_after(wrote: bool, left: usize) -> usize
-    requires { ⌜ 0 < left ⌝ }
-    ensures { λ r. ⌜ r < left ⌝ }
-{
-    if wrote { left - 1 } else { 0 }
-}
-
-// Plays to the end: every file gets there in as many plays as it has bytes and one more.
-fn play_all(file: &[u8])
-    requires { ⌜ length (now file) ≤ 65537 ⌝ }
+// Plays to the end, as `session::play_file` does, and writes each row between the plays.
+fn play_all(file: &[u8]) -> Session
+    ensures { λ r. ⌜ PlayedWhole (now (file .entry)) r ⌝ }
 {
     let mut rows = [0u8; ROW_ROOM];
     let mut played = Played {
         session: open(),
         answer: PlayAnswer::Fault,
     };
-    let mut left = file.len() + 1;
-    while 0 < left {
+    let mut goes = true;
+    while goes {
         played = play(played.session, file, &mut rows);
         let answer = played.answer;
-        left = left_after(show(answer, &rows), left);
+        goes = show(answer, &rows);
     }
+    played.session
 }
 
 // One byte more than a session file may have, so that a longer file is seen and refused with 1.

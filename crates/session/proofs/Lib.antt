@@ -3,7 +3,11 @@ mod Going
 mod RowCount
 mod RowText
 pub mod TurnsByRules
+pub mod Whole
+pub mod FileOfPlays
+pub mod FirstPassingOfPlays
 pub mod HidingOfPlays
 pub mod EndOfPlays
 pub mod OrdinalsOfPlays
 pub mod RefusalsOfPlays
+pub mod WholeFile

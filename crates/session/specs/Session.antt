@@ -1,11 +1,12 @@
 -- What a session of the code means, and what a play of it gives.
 -- Assumes nothing.
 use mathlib.Core.List.{List}
+use mathlib.Core.Option.{Option}
 use Prim.Native.Nat.{ℕ, _-_}
 use lib.Dec.{ltb}
 use lib.IntN.{ℤ}
 use mathlib.Core.Bool.{cond}
-use Rattle.session_rules.specs.Play.{Session, PlayAnswer, row, fault, over, Outcome}
+use Rattle.session_rules.specs.Play.{Session, PlayAnswer, row, fault, over, answerNumber, Outcome}
 use Rattle.session_state.specs.declared.Flags.{Flags}
 use Rattle.session_state.specs.State.{heldOf}
 use Rattle.session.specs.declared.Session as code
@@ -30,6 +31,10 @@ abbrev pub playAnswerOf : answer.PlayAnswer → PlayAnswer
 playAnswerOf (answers.Row n) = row n
 playAnswerOf answers.Fault = fault
 playAnswerOf answers.Ended = over
+
+-- document 01's number of an answer
+abbrev pub playNumberOf : answer.PlayAnswer → Option ℕ
+playNumberOf a = answerNumber (playAnswerOf a)
 
 -- all that a play gives: the session after it, the answer, and the row buffer
 abbrev pub outcomeOf : Played → List ℕ → Outcome

@@ -10,7 +10,8 @@ ghost use Rattle.session_rules.specs.Play as rules;
 ghost use Rattle.session_rules.specs.Rows.{rowSize};
 ghost use Rattle.session_state.specs.State.{setHeld};
 ghost use Rattle.session_commands.specs.Asks.{Sizes};
-ghost use Rattle.session.specs.Session.{sessionOf, outcomeOf, rowsOf};
+ghost use Rattle.session.specs.Session.{sessionOf, playAnswerOf, playNumberOf, outcomeOf, rowsOf};
+ghost use Rattle.session.specs.WholeFile.{PlayedWhole};
 ghost use Rattle.session.specs.ByRules.{ByPlay, ByEnd, ByStep};
 use crate::rows::write_row;
 use parameters::MAX_FILE;
@@ -364,7 +365,8 @@ fn run(
 
 // Plays one command of the file, and writes its row to the front of a row buffer of 16,384 bytes. The session is taken apart and put together here alone.
 pub fn play(session: Session, file: &[u8], rows: &mut [u8]) -> Played
-    ensures { λ r. ⌜ outcomeOf r (now (rows .exit)) ≡ rules.play (sessionOf session) (now (file .entry)) (now (rows .entry)) ⌝ }
+    ensures outcome { λ r. ⌜ outcomeOf r (now (rows .exit)) ≡ rules.play (sessionOf session) (now (file .entry)) (now (rows .entry)) ⌝ }
+    ensures number { λ r. ⌜ playNumberOf (r .answer) ≡ rules.playNumber (sessionOf session) (now (file .entry)) (now (rows .entry)) ⌝ }
 {
     let flags = session.flags;
     let mut exponents = session.exponents;
@@ -397,6 +399,36 @@ pub fn play(session: Session, file: &[u8], rows: &mut [u8]) -> Played
         },
         answer: answer,
     }
+}
+
+// Whether a play wrote a row.
+pub fn wrote_row(answer: PlayAnswer) -> bool
+    ensures { λ r. ⌜ r ≡ rules.isRow (playAnswerOf answer) ⌝ }
+{
+    match answer {
+        PlayAnswer::Row(_) => true,
+        PlayAnswer::Fault => false,
+        PlayAnswer::Ended => false,
+    }
+}
+
+// Plays a file from opening to its end: until a play writes no row. What is to be done with each row stands between the plays (crate `play` prints it); the
+// laws of `Whole.antt` serve every such loop.
+pub fn play_file(file: &[u8]) -> Session
+    ensures { λ r. ⌜ PlayedWhole (now (file .entry)) r ⌝ }
+{
+    let mut rows = [0u8; ROW_ROOM];
+    let mut played = Played {
+        session: open(),
+        answer: PlayAnswer::Fault,
+    };
+    let mut goes = true;
+    while goes {
+        played = play(played.session, file, &mut rows);
+        let answer = played.answer;
+        goes = wrote_row(answer);
+    }
+    played.session
 }
 
 // The size of the row at the front of a buffer: up to and with its line feed.

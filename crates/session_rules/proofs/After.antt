@@ -7,8 +7,8 @@ use Prim.Native.Nat.{ℕ}
 use native.Mathlib.Omega.{arith}
 use lib.ListN.{length}
 use borrow.Author.Tests.{eqb-true, eqb-false, not-true, not-false}
-use Rattle.algebra.proofs.Test.{cond-by}
-use Rattle.session_rules.specs.Play.{Session, step, row, Outcome, isRight, faulty, late, written, play}
+use Rattle.algebra.proofs.Test.{cond-by, by-test}
+use Rattle.session_rules.specs.Play.{Session, step, row, answerNumber, Outcome, isRight, faulty, late, written, play, playNumber}
 
 module _ (s : Session) (file buffer : List ℕ) where
   -- a claim about a play, by its three cases
@@ -22,6 +22,11 @@ module _ (s : Session) (file buffer : List ℕ) where
   pub play-written : length buffer ≡ 16384 → s .ended ≡ false → play s file buffer ≡ written s file buffer
   unfolding play
   play-written h e = rw (h, e)
+
+  -- its number
+  pub play-number : answerNumber (play s file buffer .answer) ≡ playNumber s file buffer
+  unfolding play playNumber
+  play-number = by-test (isRight buffer) (λ r. by-test (s .ended) (λ e. rw (r, e)) (λ e. rw (r, e))) (λ r. rw r)
 
   -- a claim about a play that wrote a row with number n
   pub written-by : (P : Outcome → Type 0) (n : ℕ) → (length buffer ≡ 16384 → s .ended ≡ false → step s file .number ≡ n → P (written s file buffer))

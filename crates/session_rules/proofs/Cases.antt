@@ -1,18 +1,19 @@
 -- A play that writes a row, by its cases: a row before the first command, a refusal that ends the session, an accepted 00, and a command that goes on.
 -- Assumes nothing.
-use mathlib.Core.Path.{_≡_, refl, sym, _∙_}
+use mathlib.Core.Path.{_≡_, refl, sym, subst, _∙_}
 use mathlib.Core.Bool.{true, false, not, cond}
 use mathlib.Core.List.{List}
 use mathlib.Core.Option.{Option}
 use Prim.Native.Nat.{ℕ, _+_, _≤_, _<_}
 use native.Mathlib.Omega.{arith}
 use lib.Dec.{ltb, leb, eqb}
-use lib.ListN.{length}
-use borrow.Author.Tests.{leb-false, ltb-true, ltb-false, eqb-false, eq-eqb, ne-eqb, not-false}
+use lib.ListN.{length, drop, length-drop}
+use lib.Seq.{length-take-le}
+use borrow.Author.Tests.{leb-false, ltb-true, ltb-false, eqb-true, eqb-false, eq-eqb, ne-eqb, not-false}
 use Rattle.algebra.proofs.Test.{cond-by}
 use Rattle.session_rules.specs.Held.{Chosen}
 use Rattle.session_rules.specs.CommandTable.{isKnown}
-use Rattle.session_rules.specs.Play.{isTagged, lacksSet, byteDue, sizeDue, refusalDue}
+use Rattle.session_rules.specs.Play.{isTagged, lacksSet, byteDue, sizeDue, operandDue, refusalDue}
 use Rattle.session_rules.specs.Play.{Session, Step, endsBefore, endsAt, endCommand, goingCommand, commandStep, step}
 use Rattle.session_rules.specs.Ordinals.{isBeforeFirst, BeforeFirst}
 use Rattle.session_rules.specs.Refusals.{isEnding}
@@ -55,34 +56,47 @@ module _ (file : List ℕ) (at : ℕ) (set : Option Chosen) where
   pub allowed : refusalDue file at set ≡ 0 → Allowed
   allowed = due-by (λ (n : ℕ). n ≡ 0 → Allowed) (λ n e z. absurd (eqb-false n 0 (e .refusal) z)) (λ a z. a)
 
--- the command due at a place goes on: it is not refused, and is not 00
-pub record CommandDue (s : Session) (file : List ℕ) (at : ℕ) : Type 0 where
+-- the operand lies whole in the file
+pub operand-whole : (file : List ℕ) (at size : ℕ) → at + 1 + size ≤ length file → length (operandDue file at size) ≡ size
+operand-whole file at size h = length-take-le size (drop (at + 1) file) (omega (arith, length-drop (at + 1) file))
+
+-- the place of the command due: behind the tag at the first play
+abbrev pub placeDue : Session → ℕ
+placeDue s = cond (ltb 0 (s .place)) (s .place) 4
+
+-- the command due goes on: it is not refused, and is not 00
+pub record CommandDue (s : Session) (file : List ℕ) : Type 0 where
   pub behind : isBeforeFirst s file ≡ false
-  pub later : s .place ≤ at
-  pub allowed : Allowed file at (s .held .set)
-  pub nonzero : byteDue file at ≡ 0 → ⊥
+  pub later : s .place ≤ placeDue s
+  pub allowed : Allowed file (placeDue s) (s .held .set)
+  pub nonzero : byteDue file (placeDue s) ≡ 0 → ⊥
 
 module _ (s : Session) (file : List ℕ) (P : Step → Type 0)
     (before : (n : ℕ) → EndingRefusal n → isBeforeFirst s file ≡ true → BeforeFirst file (endsBefore s n) → P (endsBefore s n))
-    (refuses : (byte n : ℕ) → EndingRefusal n → isBeforeFirst s file ≡ false → P (endsAt s byte n))
-    (finishes : isBeforeFirst s file ≡ false → P (endsAt s 0 0))
-    (goes : (at : ℕ) → CommandDue s file at → P (goingCommand s file at (sizeDue file at (s .held .set)))) where
-  command-by : isBeforeFirst s file ≡ false → (at : ℕ) → s .place ≤ at → P (commandStep s file at)
+    (refuses : (n : ℕ) → EndingRefusal n → isBeforeFirst s file ≡ false → P (endsAt s (byteDue file (placeDue s)) n))
+    (finishes : isBeforeFirst s file ≡ false → byteDue file (placeDue s) ≡ 0 → P (endsAt s 0 0))
+    (goes : CommandDue s file → P (goingCommand s file (placeDue s) (sizeDue file (placeDue s) (s .held .set)))) where
+  command-by : isBeforeFirst s file ≡ false → s .place ≤ placeDue s → P (commandStep s file (placeDue s))
   unfolding commandStep
-  command-by behind at later =
+  command-by behind later =
+      let at = placeDue s in
       let b = byteDue file at in
       due-by file at (s .held .set)
       (λ (n : ℕ). P (cond (not (eqb n 0)) (endsAt s b n) (cond (eqb b 0) (endCommand s file at) (goingCommand s file at (sizeDue file at (s .held .set))))))
-      (λ n e. rw (e .refusal) (refuses b n e behind))
+      (λ n e. rw (e .refusal) (refuses n e behind))
       (λ a. cond-by P (eqb b 0)
-      (λ z. cond-by (λ (n : ℕ). P (endsAt s 0 n)) (eqb (length file) (at + 1)) (λ e. finishes behind) (λ e. refuses 0 16 (ending 16 refl refl refl) behind))
-      (λ z. goes at (record { behind = behind; later = later; allowed = a; nonzero = eqb-false b 0 z })))
+      (λ z.
+      let zero = eqb-true b 0 z in
+      cond-by (λ (n : ℕ). P (endsAt s 0 n)) (eqb (length file) (at + 1)) (λ e. finishes behind zero)
+      (λ e. subst (λ (byte : ℕ). P (endsAt s byte 16)) zero (refuses 16 (ending 16 refl refl refl) behind)))
+      (λ z. goes (record { behind = behind; later = later; allowed = a; nonzero = eqb-false b 0 z })))
 
   pub step-by : P (step s file)
   unfolding step
   step-by =
       cond-by P (ltb 0 (s .place))
-      (λ e. command-by (rw (ne-eqb (s .place) 0 (λ z. omega (arith, ltb-true 0 (s .place) e)))) (s .place) (omega arith))
+      (λ e.
+      rw e at (command-by (rw (ne-eqb (s .place) 0 (λ z. omega (arith, ltb-true 0 (s .place) e)))) (rw e (omega arith))))
       (λ e.
       let zero = ltb-false 0 (s .place) e in
       let first = eq-eqb (s .place) 0 (omega arith) in
@@ -90,4 +104,4 @@ module _ (s : Session) (file : List ℕ) (P : Step → Type 0)
       (λ l. before 1 (ending 1 refl refl refl) (rw (first, l)) (record { ordinal = refl; byte = refl; number = rw l }))
       (λ l. cond-by P (not (isTagged file))
       (λ g. before 15 (ending 15 refl refl refl) (rw (first, l, g)) (record { ordinal = refl; byte = refl; number = rw l }))
-      (λ g. command-by (rw (first, l, g)) 4 (omega arith))))
+      (λ g. rw e at (command-by (rw (first, l, g)) (rw e (omega arith))))))

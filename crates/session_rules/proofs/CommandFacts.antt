@@ -60,8 +60,14 @@ module _ (m : Material) where
 
   -- it accepts, by the first mask that passes, and the row has its bytes
   pub record SignedWith (x : Payload) : Type 0 where
+    pub set : TestedSet (m .set)
     pub answer : answerWith ≡ signing.Signed (firstPassing m)
     pub payload : x ≡ signed (firstPassing m) bytesWith
+
+  -- it refuses with 9
+  pub record NineWith : Type 0 where
+    pub set : TestedSet (m .set)
+    pub answer : answerWith ≡ signing.Refused nonePasses
 
 -- a refusal leaves what is held, save that 9 drops all masks, has its number alone, and ends the session with an ending number only
 pub record RefusalFacts (h : Held) (ended : Bool) (d : Result) : Type 0 where
@@ -69,11 +75,12 @@ pub record RefusalFacts (h : Held) (ended : Bool) (d : Result) : Type 0 where
   pub alone : d .payload ≡ nothing
   pub ends : ended ≡ isEnding (d .number)
 
--- what is held after a command is what is read, an accepted 06 signs with the material, an accepted 00 alone ends the session, and the row has room: fewer than
+-- what is held after a command is what is read, a 06 signs with the material or finds that no mask passes, an accepted 00 alone ends the session, and the row has room: fewer than
 -- 1,153 evaluations of eleven bytes each, or a signature of at most 2,435 bytes in hex
 pub record CommandFacts (m : Material) (a : Available) (h : Held) (b : ℕ) (op : List ℕ) (ended : Bool) (d : Result) : Type 0 where
   pub keeps : KeptAll (withCommand m (played b op (d .number))) (availableWith m a (played b op (d .number))) (d .held)
   pub signs : b ≡ 6 → d .number ≡ 0 → SignedWith m (d .payload)
+  pub nine : b ≡ 6 → d .number ≡ nonePasses → NineWith m
   pub refusal : (d .number ≡ 0 → ⊥) → RefusalFacts h ended d
   pub accepted-ends : d .number ≡ 0 → ended ≡ eqb b 0
   pub short : length (payloadText (d .payload)) ≤ 12700
@@ -85,6 +92,7 @@ module _ (m : Material) (a : Available) (h : Held) (w : KeptAll m a h) (op : Lis
   refused-facts b n z q e = record {
     keeps = rw (z, q) w;
     signs = λ s y. absurd (eqb-false n 0 z y);
+    nine = λ s y. absurd (eqb-false n 9 q y);
     refusal = λ y. record { leaves = rw q; alone = refl; ends = e };
     accepted-ends = λ y. absurd (eqb-false n 0 z y);
     short = omega arith;
@@ -96,6 +104,7 @@ module _ (m : Material) (a : Available) (h : Held) (w : KeptAll m a h) (op : Lis
   accepted-facts b other ends short keeps = record {
     keeps = keeps;
     signs = λ s y. absurd (eqb-false b 6 other s);
+    nine = λ s y. absurd (eqb-false b 6 other s);
     refusal = λ y. absurd (y refl);
     accepted-ends = λ y. ends;
     short = short;
@@ -184,7 +193,8 @@ module _ (m : Material) (a : Available) (h : Held) (w : KeptAll m a h) (op : Lis
         each = all-drop (isMask p) (suc i) (h .masks) (w .masks .1 .each);
         few = omega (arith, length-drop (suc i) (h .masks), w .masks .1 .few);
       }));
-      signs = λ s z. record { answer = rw (first-signs e) e; payload = rw (first-signs e, b) };
+      signs = λ six z. record { set = s; answer = rw (first-signs e) e; payload = rw (first-signs e, b) };
+      nine = λ six z. absurd (omega arith);
       refusal = λ z. absurd (z refl);
       accepted-ends = λ z. refl;
       short =
@@ -194,7 +204,8 @@ module _ (m : Material) (a : Available) (h : Held) (w : KeptAll m a h) (op : Lis
     after-answer (signing.Refused n) bytes e b nine =
         rw (nine n e) (record {
           keeps = keep-masks w refl (record { each = tt; few = omega arith });
-          signs = λ s z. absurd (omega arith);
+          signs = λ six z. absurd (omega arith);
+          nine = λ six z. record { set = s; answer = e ∙ ap signing.Refused (nine n e) };
           refusal = λ z. record { leaves = refl; alone = refl; ends = refl };
           accepted-ends = λ z. absurd (omega arith);
           short = omega arith;

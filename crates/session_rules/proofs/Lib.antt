@@ -2,8 +2,10 @@ pub mod Transcript
 pub mod EveryFileEnds
 pub mod Refusals
 pub mod HeldIsRead
+pub mod FilePlayed
 pub mod HidingOfSessions
 pub mod MasksInOrder
+pub mod FirstPassing
 pub mod Ordinals
 pub mod RowSize
 pub mod After
@@ -20,3 +22,5 @@ pub mod Reaching
 pub mod Ending
 pub mod Signings
 pub mod Counting
+pub mod Reading
+pub mod SigningRead

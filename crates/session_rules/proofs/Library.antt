@@ -1,11 +1,11 @@
 -- What a session holds is never refused by the library's signing but with 9, nor by its check but with 12.
 -- Assumes nothing.
-use mathlib.Core.Path.{_≡_, sym, _∙_}
+use mathlib.Core.Path.{_≡_, refl, sym, ap, _∙_}
 use mathlib.Core.Bool.{Bool, true, false, not, cond}
 use mathlib.Core.List.{List, [], _∷_, _++_, flatten}
 use mathlib.Core.Option.{Option, none, some}
-use Prim.Native.Nat.{ℕ, zero, suc, _*_, _+_, _<_}
-use native.Mathlib.Nat.{mul-mod-left, suc-mul, zero-mul, mul-le-mul-right}
+use Prim.Native.Nat.{ℕ, zero, suc, _*_, _/_, _+_, _<_}
+use native.Mathlib.Nat.{mul-mod-left, suc-mul, zero-mul, mul-le-mul-right, mul-div-cancel}
 use native.Mathlib.Omega.{arith}
 use lib.Dec.{T, leb, eqb, eqb→eq}
 use lib.IntN.{ℤ, natAbs}
@@ -23,7 +23,8 @@ use Rattle.challenge.specs.Draw.{drawChallenge}
 use Rattle.encoding.specs.Challenge.{areEntries}
 use Rattle.encoding.specs.Encoding.{isKey, keyOf, secretKeySize, publicKey, signatureSize, entriesIn}
 use Rattle.scheme.specs.Scheme.{Signed, verdict}
-use Rattle.signing.specs.Signer.{maskAt, signedBy}
+use Rattle.encoding.specs.Bytes.{parts}
+use Rattle.signing.specs.Signer.{masksOf, maskAt, signedBy}
 use Rattle.refusal.specs.declared.Signing.the-variants as signing
 use Rattle.refusal.specs.declared.Verdict.the-variants as answer
 use Rattle.signing.specs.Sign.{areMasks, signRefusalIn, signRefusal, signedAnswer, signAnswer}
@@ -69,6 +70,19 @@ module _ (p : Params) where
       let (size, (small, rest)) = first-mask y ys t in
       let e : suc i * p .n ≡ p .n + i * p .n = omega (arith, suc-mul i (p .n)) in
       rw (e, ← drop-drop (i * p .n) (p .n) (y ++ flatten ys), drop-at y (flatten ys) (p .n) size) (mask-of-flattened ys i rest (omega arith))
+
+  parts-back : (ys : List (List ℤ)) → T (all (isMask p) ys) → parts (p .n) (length ys) (flatten ys) ≡ ys
+  unfolding flatten
+  parts-back [] t = refl
+  parts-back (y ∷ ys) t =
+      let (size, (small, rest)) = first-mask y ys t in
+      rw (take-at y (flatten ys) (p .n) size, drop-at y (flatten ys) (p .n) size) (ap (λ (l : List (List ℤ)). y ∷ l) (parts-back ys rest))
+
+  -- the masks of a call are those that were joined
+  pub masks-back : 0 < p .n → (ys : List (List ℤ)) → T (all (isMask p) ys) → masksOf p (flatten ys) ≡ ys
+  masks-back positive ys t =
+      ap (λ (count : ℕ). parts (p .n) count (flatten ys)) (ap (λ (l : ℕ). l / p .n) (flattened-size ys t) ∙ mul-div-cancel (length ys) positive)
+      ∙ parts-back ys t
 
   masks-flattened : {ys : List (List ℤ)} → TestedMasks p ys → areMasks p (flatten ys) ≡ true
   masks-flattened {ys} t =

@@ -37,8 +37,8 @@ module _ (s : Session) (file : List ℕ) where
   motion =
       step-by s file (Motion s file)
       (λ n e f b. ended 0 0 n (record { before = λ t. b; counted = λ t. absurd (true≢false (sym f ∙ t)) }))
-      (λ byte n e c. ended (s .rows + 1) byte n (commanded _ c refl)) (λ c. ended (s .rows + 1) 0 0 (commanded _ c refl))
-      (λ at g. record {
+      (λ n e c. ended (s .rows + 1) _ n (commanded _ c refl)) (λ c z. ended (s .rows + 1) 0 0 (commanded _ c refl))
+      (λ g. record {
         forward = λ f. (omega (arith, g .later), g .allowed .whole);
         counts = λ f. refl;
         stays = λ f. absurd (true≢false (sym f));

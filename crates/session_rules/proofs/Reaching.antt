@@ -5,8 +5,7 @@ use mathlib.Core.Bool.{false}
 use mathlib.Core.List.{List, [], _∷_, _++_}
 use Prim.Native.Nat.{ℕ, _+_, _≤_}
 use native.Mathlib.Omega.{arith}
-use lib.ListN.{length, drop, length-drop}
-use lib.Seq.{length-take-le}
+use lib.ListN.{length}
 use Rattle.session_rules.specs.Commands.{Result}
 use Rattle.session_rules.specs.Play.{Session, opened, Step, byteDue, sizeDue, operandDue, step, Outcome, rowOf}
 use Rattle.session_rules.specs.Rows.{atFront}
@@ -16,7 +15,7 @@ use Rattle.session_rules.specs.After.{after, Reachable, just-opened, onc
 use Rattle.session_rules.proofs.Rows.{length-row}
 use Rattle.session_rules.proofs.Kept.{gone, KeptAll, only-set}
 use Rattle.session_rules.proofs.CommandFacts.{CommandFacts, refused-facts, accepted-facts, command-facts}
-use Rattle.session_rules.proofs.Cases.{step-by}
+use Rattle.session_rules.proofs.Cases.{placeDue, operand-whole, step-by}
 use Rattle.session_rules.proofs.After.{play-by}
 
 pub kept-opened : KeptAll noMaterial noneAvailable (opened .held)
@@ -32,21 +31,18 @@ abbrev pub StepFacts : Material → Available → Session → Step → Type 0
 StepFacts m a s x = CommandFacts m a (s .held) (x .byte) (x .operand) (x .session .ended) (resultOf x)
 
 module _ (m : Material) (a : Available) (s : Session) (w : KeptAll m a (s .held)) (file : List ℕ) where
-  -- the operand lies whole in the file
-  operand-whole : (at size : ℕ) → at + 1 + size ≤ length file → length (operandDue file at size) ≡ size
-  operand-whole at size h = length-take-le size (drop (at + 1) file) (omega (arith, length-drop (at + 1) file))
-
   pub step-facts : StepFacts m a s (step s file)
   unfolding withCommand withAccepted availableWith availableWithAccepted
   step-facts =
       step-by s file (StepFacts m a s)
       (λ n e f b. refused-facts m a (s .held) w [] 0 n (e .refusal) (e .no-nine) (e .ending))
-      (λ byte n e c. refused-facts m a (s .held) w [] byte n (e .refusal) (e .no-nine) (e .ending))
-      (λ c. accepted-facts m a (s .held) w [] 0 refl refl (omega arith) w)
-      (λ at g.
+      (λ n e c. refused-facts m a (s .held) w [] _ n (e .refusal) (e .no-nine) (e .ending))
+      (λ c z. accepted-facts m a (s .held) w [] 0 refl refl (omega arith) w)
+      (λ g.
+      let at = placeDue s in
       let d = g .allowed in
       let size = sizeDue file at (s .held .set) in
-      command-facts m a (s .held) w (operandDue file at size) (byteDue file at) (d .known) (g .nonzero) (d .needs) (operand-whole at size (d .whole)))
+      command-facts m a (s .held) w (operandDue file at size) (byteDue file at) (d .known) (g .nonzero) (d .needs) (operand-whole file at size (d .whole)))
 
   pub row-short : length (rowOf (step s file)) ≤ 16384
   row-short = let x = step s file in length-row (x .ordinal) (x .byte) (x .number) (x .payload) (step-facts .short)

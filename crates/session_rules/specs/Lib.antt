@@ -4,8 +4,11 @@ pub mod Commands
 pub mod Rows
 pub mod Play
 pub mod Plays
+pub mod KeysHidden
 pub mod HeldIsRead
 pub mod After
 pub mod Transcript
 pub mod Ordinals
 pub mod Refusals
+pub mod FilePlayed
+pub mod FirstPassing

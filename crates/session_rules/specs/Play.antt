@@ -132,6 +132,12 @@ answerNumber (row n) = some n
 answerNumber fault = some wrongLength
 answerNumber over = none
 
+-- a row was written
+abbrev pub isRow : PlayAnswer → Bool
+isRow (row n) = true
+isRow fault = false
+isRow over = false
+
 pub record Outcome : Type 0 where
   pub session : Session
   pub answer : PlayAnswer
@@ -158,3 +164,7 @@ written s file buffer = record { session = step s file .session; answer = row (s
 -- one play, lent the file and a row buffer. A wrong row buffer is at fault ahead of all else
 unfoldable pub play : Session → List ℕ → List ℕ → Outcome
 play s file buffer = cond (not (isRight buffer)) (faulty s buffer) (cond (s .ended) (late s buffer) (written s file buffer))
+
+-- its number: 1 for a wrong row buffer, none after the end, else the one that its row prints
+unfoldable pub playNumber : Session → List ℕ → List ℕ → Option ℕ
+playNumber s file buffer = cond (not (isRight buffer)) (some wrongLength) (cond (s .ended) none (some (step s file .number)))

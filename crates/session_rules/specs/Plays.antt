@@ -1,23 +1,20 @@
 -- Document 01, "Hiding, word by word": a list of plays of one file from a session just opened, and what each accepted 06 signs with, read from
 -- the commands played before it and not from what the session holds.
 -- Assumes nothing.
-use mathlib.Core.Path.{_≡_}
-use mathlib.Core.Bool.{Bool, not, _&&_, cond}
+use mathlib.Core.Bool.{Bool, _&&_, cond}
 use mathlib.Core.List.{List, [], _∷_, _++_, flatten}
-use mathlib.Core.Logic.{_↔_}
 use mathlib.Core.Option.{none}
 use Prim.Native.Nat.{ℕ, suc, _+_, _-_, _*_}
-use lib.Dec.{T, ltb, eqb}
+use lib.Dec.{ltb, eqb}
 use lib.IntN.{ℤ}
 use lib.ListN.{length, getD, drop}
-use Rattle.algebra.specs.All.{all}
 use Rattle.parameters.specs.declared.Params.{Params}
 use Rattle.parameters.specs.Sets.{setOf}
 use Rattle.encoding.specs.Bytes.{numbers}
 use Rattle.refusal.specs.declared.Signing.{Signing}
 use Rattle.refusal.specs.declared.Signing.the-variants as signing
 use Rattle.refusal.specs.Numbers.{nonePasses}
-use Rattle.passign.specs.Hiding.{Call, ourLibrary, SigningRecord, Same, Each₃}
+use Rattle.passign.specs.Hiding.{Call, ourLibrary, SigningRecord}
 use Rattle.session_rules.specs.Held.{Chosen, paramsOf}
 use Rattle.session_rules.specs.Commands.{maskOf, signatureRoom}
 use Rattle.session_rules.specs.Play.{Session, opened, step, PlayAnswer, row, fault, over, Outcome, play}
@@ -158,10 +155,3 @@ signingsFrom m (e ∷ es) = cond (isSigning e) (signingWith m (e .buffer) ∷ []
 
 unfoldable pub signings : List Event → List SigningRecord
 signings es = signingsFrom noMaterial es
-
--- demand 3 of commands that were played is `Hidden ourLibrary (signings es)`. "A list of plays with no accepted 06 has the empty list of masks": there is no
--- signing, and no other list of masks does
-abbrev pub NoneSigned : List Event → Type 0
-NoneSigned es =
-    T (all (λ (e : Event). not (isSigning e)) es)
-    → (signings es ≡ []) × ((ys : List (List ℤ)) → Each₃ (Same ourLibrary) (signings es) [] ys ↔ (ys ≡ []))
