@@ -7,7 +7,7 @@ use mathlib.Core.Option.{Option}
 use Prim.Native.Nat.{ℕ, _+_, _≤_, _<_}
 use native.Mathlib.Omega.{arith}
 use lib.Dec.{ltb, leb, eqb}
-use lib.ListN.{length, drop, length-drop}
+use lib.ListN.{length, length-drop}
 use lib.Seq.{length-take-le}
 use borrow.Author.Tests.{leb-false, ltb-true, ltb-false, eqb-true, eqb-false, eq-eqb, ne-eqb, not-false}
 use Rattle.algebra.proofs.Test.{cond-by}
@@ -58,7 +58,7 @@ module _ (file : List ℕ) (at : ℕ) (set : Option Chosen) where
 
 -- the operand lies whole in the file
 pub operand-whole : (file : List ℕ) (at size : ℕ) → at + 1 + size ≤ length file → length (operandDue file at size) ≡ size
-operand-whole file at size h = length-take-le size (drop (at + 1) file) (omega (arith, length-drop (at + 1) file))
+operand-whole file at size h = length-take-le size _ (simp length-drop (omega arith))
 
 -- the place of the command due: behind the tag at the first play
 abbrev pub placeDue : Session → ℕ

@@ -75,8 +75,8 @@ pub record RefusalFacts (h : Held) (ended : Bool) (d : Result) : Type 0 where
   pub alone : d .payload ≡ nothing
   pub ends : ended ≡ isEnding (d .number)
 
--- what is held after a command is what is read, a 06 signs with the material or finds that no mask passes, an accepted 00 alone ends the session, and the row has room: fewer than
--- 1,153 evaluations of eleven bytes each, or a signature of at most 2,435 bytes in hex
+-- what is held after a command is what is read, a 06 signs with the material or finds that no mask passes, an accepted 00 alone ends the session, and the
+-- row has room: fewer than 1,153 evaluations of eleven bytes each, or a signature of at most 2,435 bytes in hex
 pub record CommandFacts (m : Material) (a : Available) (h : Held) (b : ℕ) (op : List ℕ) (ended : Bool) (d : Result) : Type 0 where
   pub keeps : KeptAll (withCommand m (played b op (d .number))) (availableWith m a (played b op (d .number))) (d .held)
   pub signs : b ≡ 6 → d .number ≡ 0 → SignedWith m (d .payload)

@@ -1,6 +1,6 @@
 -- Every file is taken to its end: from a session just opened, played with row buffers of 16,384 bytes, the session has ended after at most as many plays as
--- the file has bytes and one more. Whatever these buffers hold, and however many plays come after the end, it is one session, `afterFile`. Each play, whatever the session and the file, ends the session or moves its place forward; so only the first
--- play is at place 0.
+-- the file has bytes and one more. Whatever these buffers hold, and however many plays come after the end, it is one session, `afterFile`. Each play,
+-- whatever the session and the file, ends the session or moves its place forward; so only the first play is at place 0.
 -- Assumes nothing.
 use mathlib.Core.Path.{_≡_}
 use mathlib.Core.Bool.{true}
@@ -25,7 +25,9 @@ every-file-ends file buffers right enough = ends-from opened file buffers right 
 -- as many right row buffers as there are plays
 buffers-right : (n : ℕ) → T (all isRight (replicate n freshBuffer))
 buffers-right zero = tt
-buffers-right (suc n) = and-intro (isRight freshBuffer) (all isRight (replicate n freshBuffer)) (true-holds (eq-eqb (length freshBuffer) 16384 (length-replicate {A = ℕ} 16384 0))) (buffers-right n)
+buffers-right (suc n) =
+    and-intro (isRight freshBuffer) (all isRight (replicate n freshBuffer))
+    (true-holds (eq-eqb (length freshBuffer) 16384 (length-replicate {A = ℕ} 16384 0))) (buffers-right n)
 
 pub one-end-of-file : (file : List ℕ) (buffers : List (List ℕ)) → T (all isRight buffers) → after opened file buffers .ended ≡ true
     → after opened file buffers ≡ afterFile file

@@ -197,7 +197,11 @@ module _ (file : List ℕ) where
         behind = λ f.
             let here = behind-first es s r f in
             let (read, place) = due es s r here in
-            record { read = ap (λ (at : ℕ). take at file) (sym place) ∙ read; byte = b ∙ x .byte here ∙ ap (λ (at : ℕ). getD file at 0) place; operand = o ∙ x .operand g };
+            record {
+              read = ap (λ (at : ℕ). take at file) (sym place) ∙ read;
+              byte = b ∙ x .byte here ∙ ap (λ (at : ℕ). getD file at 0) place;
+              operand = o ∙ x .operand g;
+            };
       }
 
   pub read-from : (s : Session) (es : List Event) → Reading es s → (buffers : List (List ℕ))
