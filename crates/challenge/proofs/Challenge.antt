@@ -16,7 +16,6 @@ use Rattle.algebra.proofs.Test.{cond-by, by-test}
 use Rattle.parameters.specs.declared.Params.{Params}
 use Rattle.polynomial.specs.Polynomial.{coefficient, ternary, weight}
 use Rattle.polynomial.specs.Sparse.{Sparse}
-use Rattle.challenge.specs.Pool.{pool}
 use Rattle.challenge.specs.Draw.{signAt, valueAt, taken, withValue, kept, placed, valueCount, draw, drawChallenge}
 use Rattle.challenge.proofs.Kept.{index-below, sign-abs, taken-more, placed-more}
 
@@ -105,4 +104,4 @@ module _ (p : Params) (bytes : List ℕ) where
 -- and so is the challenge of a commitment and a message
 pub challenge-sparse : (p : Params) (w message : List ℕ) (c : List ℤ) → drawChallenge p w message ≡ some c → Sparse p c
 unfolding drawChallenge
-challenge-sparse p w message = drawn-sparse p (pool w message)
+challenge-sparse p w message = drawn-sparse p _

@@ -9,7 +9,7 @@ use native.Mathlib.Omega.{arith}
 use lib.IntN.{ℤ, pos, _+ℤ_, _*ℤ_, negℤ, +ℤ-comm, +ℤ-assoc, +ℤ-idl, +ℤ-idr, zero-*ℤ, *ℤ-zero}
 use lib.ListN.{length, take, set}
 use Rattle.algebra.proofs.Ring.{ring}
-use Rattle.polynomial.specs.Polynomial.{coefficient, add, scale, neg, sub, push, lastOf, rotate, star, zOf}
+use Rattle.polynomial.specs.Polynomial.{coefficient, add, scale, neg, sub, push, rotate, star, zOf}
 use Rattle.polynomial.specs.Rotation.{rotations}
 
 -- ---- lengths
@@ -35,7 +35,7 @@ length-push a [] = refl
 length-push a (x ∷ f) = ap suc (length-push x f)
 
 pub length-rotate : (f : List ℤ) → length (rotate f) ≡ length f
-length-rotate f = length-push (lastOf (pos 0) f) f
+length-rotate f = length-push _ f
 
 pub length-rotations : (i : ℕ) (f : List ℤ) → length (rotations i f) ≡ length f
 length-rotations zero f = refl

@@ -23,9 +23,9 @@ primesFromTwo (suc n) = withNext (2 + n) (primesFromTwo n)
 unfoldable pub primes : List ℕ
 primes = primesFromTwo 408
 
--- k is the fraction of the n-th root of p, to 64 bits, the root's whole part being r
+-- k is the fraction of the n-th root of p, the first 64 bits of it, the root's whole part being r
 unfoldable pub isRoot : ℕ → ℕ → ℕ → ℕ → Bool
-isRoot n p r k = leb ((r * 2 ^ 64 + k) ^ n) (p * 2 ^ (64 * n)) && ltb (p * 2 ^ (64 * n)) ((r * 2 ^ 64 + k + 1) ^ n)
+isRoot n p r k = ltb k (2 ^ 64) && (leb ((r * 2 ^ 64 + k) ^ n) (p * 2 ^ (64 * n)) && ltb (p * 2 ^ (64 * n)) ((r * 2 ^ 64 + k + 1) ^ n))
 
 -- one of the whole parts fits
 unfoldable pub someRoot : ℕ → ℕ → ℕ → List ℕ → Bool

@@ -1,0 +1,39 @@
+-- The library's signing and check on what the session loads. The draws are cited, so SHA-512 is not computed again.
+-- Assumes nothing.
+use mathlib.Core.Path.{_≡_}
+use mathlib.Core.List.{[], _∷_, flatten}
+use mathlib.Core.Option.{some}
+use lib.ListN.{drop}
+use Rattle.parameters.specs.Sets.{sets, setOf}
+use Rattle.polynomial.specs.Evaluation.{evaluation, evaluations}
+use Rattle.challenge.specs.Draw.{drawChallenge}
+use Rattle.encoding.specs.Bytes.{bigEndian, numbers, encoded}
+use Rattle.encoding.specs.Encoding.{isKey, keyOf, publicKey, signatureBytes, exponentsOf, evaluationsOf}
+use Rattle.scheme.specs.Scheme.{attempt, verdict}
+use Rattle.refusal.specs.declared.Signing.the-variants as signing
+use Rattle.refusal.specs.declared.Verdict.the-variants as answer
+use Rattle.signing.specs.Signer.{signatureOf, signedBy}
+use Rattle.signing.specs.Sign.{signRefusalIn, signRefusal, signAnswer, signWritten}
+use Rattle.checking.specs.Check.{bodyRead, checkRefusalOf, checkRefusalIn, checkRefusal, checkVerdict, checkAnswer}
+use Rattle.worked_session.specs.WorkedSession.{key, exponents, values, masks, message, room, signature}
+use Rattle.worked_session.proofs.Draws.{first-drawn, second-drawn}
+
+-- the first mask gives a z out of range, the second passes
+by-second : signedBy drawChallenge (setOf 0) (keyOf key) exponents masks message
+    ≡ some (record { passedOver = 1; commitment = 18 ∷ 3 ∷ []; signature = bodyRead (setOf 0) (drop 1 signature) })
+unfolding signedBy attempt key exponents masks keyOf setOf sets evaluations evaluation bodyRead signature numbers
+by-second = rw (first-drawn, second-drawn)
+
+pub signs : signAnswer key exponents masks message room ≡ signing.Signed 1
+unfolding signAnswer signRefusal signRefusalIn message key exponents masks room isKey setOf sets
+signs = rw by-second
+
+pub writes : signWritten key exponents masks message room ≡ signature
+unfolding signature signWritten signRefusal signRefusalIn message key exponents masks room isKey setOf sets bodyRead numbers
+    signatureOf signatureBytes encoded bigEndian flatten
+writes = rw by-second
+
+pub says-yes : checkAnswer (publicKey 0 exponents values) message signature ≡ answer.Yes
+unfolding signature checkAnswer checkRefusal checkRefusalIn checkRefusalOf checkVerdict exponents values publicKey encoded bigEndian flatten
+    setOf sets exponentsOf evaluationsOf numbers bodyRead verdict evaluations evaluation message
+says-yes = rw second-drawn

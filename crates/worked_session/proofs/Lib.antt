@@ -1,0 +1,5 @@
+pub mod WorkedSession
+pub mod AcceptedSigning
+pub mod Draws
+pub mod Calls
+pub mod Steps
