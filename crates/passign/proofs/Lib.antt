@@ -4,6 +4,7 @@ pub mod Correctness
 pub mod VerdictRule
 pub mod FirstPassing
 pub mod Range
+pub mod SignatureSize
 pub mod Hiding
 pub mod HidingOfMany
 pub mod FiveSets
