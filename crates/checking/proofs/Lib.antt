@@ -1,3 +1,4 @@
+pub mod Stated
 pub mod Allowed
 pub mod Guard
 pub mod Encoded

@@ -2,7 +2,7 @@
 -- Over any parameter set and any way to draw, as the entry `sign` is.
 -- Assumes nothing.
 use mathlib.Core.Bool.{Bool, not, _&&_, _||_, cond}
-use mathlib.Core.List.{List}
+use mathlib.Core.List.{List, [], _∷_}
 use Prim.Native.Nat.{ℕ}
 use lib.Dec.{eqb}
 use lib.ListN.{length, drop}
@@ -13,7 +13,7 @@ use Rattle.encoding.specs.Encoding.{publicKeySize, signatureSize, areExponents,
 use Rattle.scheme.specs.Scheme.{Drawer, Signature, verdict}
 use Rattle.refusal.specs.declared.Verdict.{Verdict}
 use Rattle.refusal.specs.declared.Verdict.the-variants as answer
-use Rattle.refusal.specs.Answer.{setByte, setIn, isLong, inSetOf}
+use Rattle.refusal.specs.Answer.{setByte, setIn, isLong, inSetOf, Stated, stated}
 use Rattle.refusal.specs.Numbers.{wrongLength, wrongSet, wrongExponents, wrongEvaluation, wrongEntries}
 
 -- the signature that a body means, the bytes behind the set byte, and that of a whole encoding
@@ -53,6 +53,10 @@ checkRefusal key message signature =
 abbrev pub verdictAfter : ℕ → Bool → Verdict
 verdictAfter refusal holds = cond (eqb refusal 0) (cond holds answer.Yes answer.No) (answer.Refused refusal)
 
+-- the same in document 01's number and values: 1 for yes and 0 for no
+abbrev pub statedAfter : ℕ → Bool → Stated
+statedAfter refusal holds = cond (eqb refusal 0) (stated 0 (cond holds 1 0 ∷ [])) (stated refusal [])
+
 -- on what was read from a public key, and a signature's body
 unfoldable pub answerOn : Drawer → Params → List ℕ → List ℕ → List ℕ → List ℕ → Verdict
 answerOn draw p exponents evaluations message body =
@@ -66,6 +70,9 @@ module _ (draw : Drawer) (p : Params) (key message signature : List ℕ) where
   unfoldable pub checkAnswerIn : Verdict
   checkAnswerIn = verdictAfter (checkRefusalIn p key signature) checkVerdict
 
--- what the entry answers
+-- what the entry answers, and what that states
 unfoldable pub checkAnswer : List ℕ → List ℕ → List ℕ → Verdict
 checkAnswer key message signature = verdictAfter (checkRefusal key message signature) (checkVerdict drawChallenge (setIn key) key message signature)
+
+unfoldable pub checkStated : List ℕ → List ℕ → List ℕ → Stated
+checkStated key message signature = statedAfter (checkRefusal key message signature) (checkVerdict drawChallenge (setIn key) key message signature)

@@ -12,8 +12,9 @@ ghost use Rattle.parameters.specs.Sound.{Limited};
 ghost use Rattle.polynomial.specs.Evaluation.{evaluations};
 ghost use Rattle.challenge.specs.Draw.{drawChallenge};
 ghost use Rattle.encoding.specs.Challenge.{challengeOf};
+ghost use Rattle.refusal.specs.Answer.{verdictStates};
 ghost use Rattle.scheme.specs.Scheme.{differences, equal, equalℤ, recovered};
-ghost use Rattle.checking.specs.Check.{checkLengths, checkRefusalOf, answerOn, checkAnswer};
+ghost use Rattle.checking.specs.Check.{checkLengths, checkRefusalOf, answerOn, checkAnswer, checkStated};
 ghost use Rattle.checking.specs.Asks.{signatureWith, ruleOf, guardRefusal, Recoverable, Checkable};
 use challenge::challenge_of;
 use encoding::numbers::are_below;
@@ -237,7 +238,8 @@ fn guard_refusal(public_key: &[u8], message: &[u8], signature: &[u8]) -> u32
 
 // Checks a signature of a message against a public key. Refuses with 1, 2, 1, 4, 7, 12; a point out of range is a no.
 pub fn check(public_key: &[u8], message: &[u8], signature: &[u8]) -> Verdict
-    ensures { λ r. ⌜ r ≡ checkAnswer (now («public_key» .entry)) (now (message .entry)) (now (signature .entry)) ⌝ }
+    ensures answer { λ r. ⌜ r ≡ checkAnswer (now («public_key» .entry)) (now (message .entry)) (now (signature .entry)) ⌝ }
+    ensures number { λ r. ⌜ verdictStates r ≡ checkStated (now («public_key» .entry)) (now (message .entry)) (now (signature .entry)) ⌝ }
 {
     let refusal = guard_refusal(public_key, message, signature);
     if refusal != 0 {

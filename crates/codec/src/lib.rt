@@ -1,8 +1,9 @@
 // The readers and writers of the three encodings as entries.
 ghost use mathlib.Core.Path.{_≡_};
+ghost use mathlib.Core.List.{[]};
 ghost use lib.ListN.{length};
 ghost use Rattle.parameters.specs.Sound.{Limited};
-ghost use Rattle.refusal.specs.Answer.{answerOf};
+ghost use Rattle.refusal.specs.Answer.{answerOf, stated, answerStates};
 ghost use Rattle.codec.specs.Codec.{readSecretKeyRefusal, readSecretKeyWritten, writeSecretKeyRefusal, writeSecretKeyWritten};
 ghost use Rattle.codec.specs.Codec.{publicKeyListsRefusal, readPublicKeyRefusal, readExponentsWritten, readEvaluationsWritten};
 ghost use Rattle.codec.specs.Codec.{writePublicKeyRefusal, writePublicKeyWritten, readSignatureRefusal, readEntriesWritten, readZWritten};
@@ -57,6 +58,7 @@ fn read_secret_key_in(p: Params, bytes: &[u8], out: &mut [i8]) -> Answer
 // Reads a secret key, N coefficients. Refuses with 1, 2, 1, 5.
 pub fn read_secret_key(bytes: &[u8], out: &mut [i8]) -> Answer
     ensures answer { λ r. ⌜ r ≡ answerOf (readSecretKeyRefusal (now (bytes .entry)) (length (now (out .entry)))) ⌝ }
+    ensures number { λ r. ⌜ answerStates r ≡ stated (readSecretKeyRefusal (now (bytes .entry)) (length (now (out .entry)))) [] ⌝ }
     ensures written { λ r. ⌜ now (out .exit) ≡ readSecretKeyWritten (now (bytes .entry)) (now (out .entry)) ⌝ }
 {
     if bytes.len() == 0 {
@@ -85,6 +87,7 @@ fn write_secret_key_refusal(set: u8, f: &[i8], room: usize) -> u32
 // Writes a secret key. Refuses with 2, 1, 5.
 pub fn write_secret_key(set: u8, f: &[i8], out: &mut [u8]) -> Answer
     ensures answer { λ r. ⌜ r ≡ answerOf (writeSecretKeyRefusal set (now (f .entry)) (length (now (out .entry)))) ⌝ }
+    ensures number { λ r. ⌜ answerStates r ≡ stated (writeSecretKeyRefusal set (now (f .entry)) (length (now (out .entry)))) [] ⌝ }
     ensures written { λ r. ⌜ now (out .exit) ≡ writeSecretKeyWritten set (now (f .entry)) (now (out .entry)) ⌝ }
 {
     let number = write_secret_key_refusal(set, f, out.len());
@@ -142,6 +145,8 @@ fn read_public_key_in(p: Params, bytes: &[u8], js: &mut [u16], vs: &mut [u32]) -
 // Reads a public key, t exponents and t evaluations. Refuses with 1, 2, 1, 4, 7.
 pub fn read_public_key(bytes: &[u8], exponents: &mut [u16], evaluations: &mut [u32]) -> Answer
     ensures answer { λ r. ⌜ r ≡ answerOf (readPublicKeyRefusal (now (bytes .entry)) (length (now (exponents .entry))) (length (now (evaluations .entry)))) ⌝ }
+    ensures number { λ r. ⌜ answerStates r ≡ stated
+        (readPublicKeyRefusal (now (bytes .entry)) (length (now (exponents .entry))) (length (now (evaluations .entry)))) [] ⌝ }
     ensures exponents { λ r. ⌜ now (exponents .exit) ≡ readExponentsWritten (now (bytes .entry)) (now (exponents .entry)) (now (evaluations .entry)) ⌝ }
     ensures values { λ r. ⌜ now (evaluations .exit) ≡ readEvaluationsWritten (now (bytes .entry)) (now (exponents .entry)) (now (evaluations .entry)) ⌝ }
 {
@@ -175,6 +180,8 @@ fn write_public_key_refusal(set: u8, exponents: &[u16], evaluations: &[u32], roo
 // Writes a public key. Refuses with 2, 1, 4, 7.
 pub fn write_public_key(set: u8, exponents: &[u16], evaluations: &[u32], out: &mut [u8]) -> Answer
     ensures answer { λ r. ⌜ r ≡ answerOf (writePublicKeyRefusal set (now (exponents .entry)) (now (evaluations .entry)) (length (now (out .entry)))) ⌝ }
+    ensures number { λ r. ⌜ answerStates r ≡ stated
+        (writePublicKeyRefusal set (now (exponents .entry)) (now (evaluations .entry)) (length (now (out .entry)))) [] ⌝ }
     ensures written { λ r. ⌜ now (out .exit) ≡ writePublicKeyWritten set (now (exponents .entry)) (now (evaluations .entry)) (now (out .entry)) ⌝ }
 {
     let number = write_public_key_refusal(set, exponents, evaluations, out.len());
@@ -219,6 +226,8 @@ fn read_signature_in(p: Params, bytes: &[u8], es: &mut [u16], zs: &mut [i16]) ->
 // Reads a signature, b challenge entries and N coefficients. Refuses with 1, 2, 1, 12.
 pub fn read_signature(bytes: &[u8], entries: &mut [u16], z: &mut [i16]) -> Answer
     ensures answer { λ r. ⌜ r ≡ answerOf (readSignatureRefusal (now (bytes .entry)) (length (now (entries .entry))) (length (now (z .entry)))) ⌝ }
+    ensures number { λ r. ⌜ answerStates r ≡ stated
+        (readSignatureRefusal (now (bytes .entry)) (length (now (entries .entry))) (length (now (z .entry)))) [] ⌝ }
     ensures challenge { λ r. ⌜ now (entries .exit) ≡ readEntriesWritten (now (bytes .entry)) (now (entries .entry)) (now (z .entry)) ⌝ }
     ensures zOf { λ r. ⌜ now (z .exit) ≡ readZWritten (now (bytes .entry)) (now (entries .entry)) (now (z .entry)) ⌝ }
 {
@@ -253,6 +262,7 @@ fn write_signature_refusal(set: u8, entries: &[u16], z: &[i16], room: usize) -> 
 // Writes a signature. Refuses with 2, 1, 12.
 pub fn write_signature(set: u8, entries: &[u16], z: &[i16], out: &mut [u8]) -> Answer
     ensures answer { λ r. ⌜ r ≡ answerOf (writeSignatureRefusal set (now (entries .entry)) (now (z .entry)) (length (now (out .entry)))) ⌝ }
+    ensures number { λ r. ⌜ answerStates r ≡ stated (writeSignatureRefusal set (now (entries .entry)) (now (z .entry)) (length (now (out .entry)))) [] ⌝ }
     ensures written { λ r. ⌜ now (out .exit) ≡ writeSignatureWritten set (now (entries .entry)) (now (z .entry)) (now (out .entry)) ⌝ }
 {
     let number = write_signature_refusal(set, entries, z, out.len());

@@ -1,8 +1,10 @@
 pub mod WorkedCases
+pub mod RefusedWritesNothing
 pub mod Correctness
 pub mod VerdictRule
 pub mod FirstPassing
 pub mod Range
+pub mod SignatureSize
 pub mod Hiding
 pub mod HidingOfMany
 pub mod FiveSets

@@ -1,4 +1,5 @@
 pub mod WorkedCases
+pub mod RefusedWritesNothing
 pub mod FirstPassing
 pub mod VerdictRule
 pub mod Hiding

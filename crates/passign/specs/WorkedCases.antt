@@ -1,4 +1,5 @@
--- The worked cases of document 01 in set 0: rows of one table, and the test of a row by the definitions that the entries' contracts cite.
+-- The worked cases of document 01, in set 0 but for a size in set 4: rows of one table, and the test of a row by the definitions that the entries'
+-- contracts cite.
 -- Assumes nothing.
 use mathlib.Core.Bool.{Bool, true, false, _&&_, not, cond}
 use mathlib.Core.List.{List, [], _∷_, _++_, map}
@@ -10,7 +11,8 @@ use Rattle.algebra.specs.Integer.{within}
 use Rattle.parameters.specs.Sets.{setOf}
 use Rattle.polynomial.specs.Polynomial.{star, zOf}
 use Rattle.polynomial.specs.Evaluation.{evaluations}
-use Rattle.challenge.specs.Draw.{draw}
+use Rattle.challenge.specs.Draw.{draw, kept, valueCount}
+use Rattle.encoding.specs.Encoding.{signatureSize}
 use Rattle.scheme.specs.Scheme.{equal, isDrawn}
 use Rattle.signing.specs.Signer.{signatureOf}
 use Rattle.values.specs.Draw.{drawRefusal}
@@ -19,8 +21,8 @@ use Rattle.values.specs.Draw.{drawRefusal}
 pub data Case : Type 0 where
   -- a pool yields this challenge
   draws : List ℕ → List ℤ → Case
-  -- a pool is spent: a draw from it is refused with 11
-  spent : List ℕ → Case
+  -- a pool keeps these indices only and is spent: a draw from it is refused with 11
+  spent : List ℕ → List ℕ → Case
   -- a polynomial has these evaluations at points 1 and 2
   evaluates : List ℤ → List ℕ → Case
   -- key ⋆ challenge is this product
@@ -29,6 +31,8 @@ pub data Case : Type 0 where
   reaches : List ℤ → List ℤ → List ℤ → List ℤ → Bool → Case
   -- challenge and point are encoded as these bytes
   encodes : List ℤ → List ℤ → List ℕ → Case
+  -- a signature of this set has so many bytes
+  measures : ℕ → ℕ → Case
 
 -- the bytes, and zeros to 64 of them
 abbrev pub padded : List ℕ → List ℕ
@@ -71,7 +75,9 @@ sharedPoint = poly (pos 4) (minus 1) (minus 4) (minus 1) (minus 3)
 unfoldable pub cases : List Case
 cases =
     draws (padded (0x02 ∷ replicate 7 0 ++ (0x00 ∷ 0x07 ∷ 0x00 ∷ 0x0C ∷ 0xFF ∷ 0xFF ∷ 0x00 ∷ 0x03 ∷ []))) challenge
-    ∷ spent (padded [])
+    -- sign i goes to the i-th index drawn, here 4 and then 1, and not to the i-th smallest
+    ∷ draws (padded (0x01 ∷ replicate 7 0 ++ (0x00 ∷ 0x04 ∷ 0x00 ∷ 0x01 ∷ []))) (poly (pos 0) (pos 1) (pos 0) (pos 0) (minus 1))
+    ∷ spent (padded []) (0 ∷ [])
     ∷ evaluates key (7 ∷ 30 ∷ [])
     ∷ multiplies key challenge (poly (pos 1) (minus 1) (pos 1) (minus 2) (pos 1))
     ∷ reaches key challenge (poly (pos 3) (pos 4) (minus 5) (pos 2) (pos 0)) (poly (pos 4) (pos 3) (minus 4) (pos 0) (pos 1)) true
@@ -84,6 +90,8 @@ cases =
     ∷ evaluates otherMask (19 ∷ 18 ∷ [])
     ∷ encodes challenge (poly (pos 4) (pos 3) (minus 4) (pos 0) (pos 1))
     (0x00 ∷ 0x00 ∷ 0x02 ∷ 0x80 ∷ 0x03 ∷ 0x00 ∷ 0x04 ∷ 0x00 ∷ 0x03 ∷ 0xFF ∷ 0xFC ∷ 0x00 ∷ 0x00 ∷ 0x00 ∷ 0x01 ∷ [])
+    ∷ measures 0 15
+    ∷ measures 4 2379
     ∷ []
 
 abbrev pub sameNumbers : List ℕ → List ℕ → Bool
@@ -92,11 +100,12 @@ sameNumbers xs ys = equal (map pos xs) (map pos ys)
 abbrev pub sameBool : Bool → Bool → Bool
 sameBool a b = cond a b (not b)
 
--- the test of a row, in set 0
+-- the test of a row
 unfoldable pub holds : Case → Bool
 holds (draws xs c) = isDrawn (draw (setOf 0) xs) c
-holds (spent xs) = eqb (drawRefusal 0 xs (replicate (setOf 0 .n) (pos 0))) 11
+holds (spent xs js) = sameNumbers (kept (setOf 0) xs (valueCount xs)) js && eqb (drawRefusal 0 xs (replicate (setOf 0 .n) (pos 0))) 11
 holds (evaluates f vs) = sameNumbers (evaluations (setOf 0) f (1 ∷ 2 ∷ [])) vs
 holds (multiplies f c r) = equal (star f c) r
 holds (reaches f c y z inside) = equal (zOf f c y) z && sameBool (within (setOf 0 .k - setOf 0 .b) z) inside
 holds (encodes c z xs) = sameNumbers (signatureOf 0 (record { c = c; z = z })) xs
+holds (measures s size) = eqb (signatureSize (setOf s)) size

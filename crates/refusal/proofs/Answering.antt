@@ -1,8 +1,8 @@
 -- Answers and buffers by a refusal number, the tests that lead to it, and those that have been passed where it is 0.
 -- Assumes nothing.
-use mathlib.Core.Path.{_≡_, refl}
+use mathlib.Core.Path.{_≡_, refl, ap, _∙_}
 use mathlib.Core.Bool.{Bool, true, false, not, _&&_, cond}
-use mathlib.Core.List.{List}
+use mathlib.Core.List.{List, []}
 use mathlib.Core.Logic.{Iff·rfl}
 use Prim.Native.Nat.{ℕ, zero, suc}
 use lib.Dec.{eqb, eqb→eq}
@@ -11,9 +11,11 @@ use borrow.Author.Tests.{eq-eqb, ne-eqb}
 use Rattle.algebra.proofs.Test.{and-left, and-right, true-holds}
 use Rattle.parameters.specs.declared.Params.{Params}
 use Rattle.parameters.specs.Sets.{isSet}
+use Rattle.refusal.specs.declared.Answer.{Answer}
 use Rattle.refusal.specs.declared.Answer.the-variants.{Done, Refused}
 use Rattle.refusal.specs.Numbers.{wrongLength, wrongSet}
-use Rattle.refusal.specs.Answer.{answerOf, unlessRefused, BufferOutcome, setByte, setIn, inSet, inSetOf, numberOf}
+use Rattle.refusal.specs.Answer.{answerOf, unlessRefused, BufferOutcome, setByte, setIn, inSet, inSetOf, stated, answerStates, numberOf}
+use Rattle.refusal.proofs.Apart.{done-not-refused}
 use Rattle.refusal.proofs.Refusal.{step, equal-iff}
 
 -- to C, an answer is the number that it was made of
@@ -21,10 +23,22 @@ pub numbered : (n : ℕ) → numberOf (answerOf n) ≡ n
 numbered zero = refl
 numbered (suc n) = refl
 
+-- it states that number and no values
+pub states-answer : (n : ℕ) → answerStates (answerOf n) ≡ stated n []
+states-answer zero = refl
+states-answer (suc n) = refl
+
+-- so an entry that answers by a refusal number, and writes as W says, states it
+pub stating : {r : Answer} {n : ℕ} {W : Type 0} → (r ≡ answerOf n) × W → (r ≡ answerOf n) × ((answerStates r ≡ stated n []) × W)
+stating {n = n} (e, w) = (e, (ap answerStates e ∙ states-answer n, w))
+
 -- a refused call answers the number, and leaves a buffer as it was
 pub refused : (n : ℕ) → (n ≡ 0 → ⊥) → Refused n ≡ answerOf n
 refused zero h = absurd (h refl)
 refused (suc n) h = refl
+
+pub refused-number : (n : ℕ) {m : ℕ} → answerOf n ≡ Refused m → n ≡ 0 → ⊥
+refused-number n e z = done-not-refused (rw z at e)
 
 pub kept : {A : Type 0} (n : ℕ) (written before : List A) → (n ≡ 0 → ⊥) → before ≡ unlessRefused n written before
 kept n written before h = rw (ne-eqb n 0 h)

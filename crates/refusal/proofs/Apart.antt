@@ -3,8 +3,12 @@
 use mathlib.Core.Path.{_≡_}
 use Prim.Native.Nat.{ℕ}
 use native.Mathlib.Omega.{arith}
+use Rattle.refusal.specs.declared.Answer.the-variants as answer
 use Rattle.refusal.specs.declared.Signing.the-variants as signing
 use Rattle.refusal.specs.declared.Verdict.the-variants as verdict
+
+pub done-not-refused : {n : ℕ} → answer.Done ≡ answer.Refused n → ⊥
+done-not-refused e = let z : _≡_ {A = ℕ} 0 1 = cc in omega arith
 
 pub refused-same : {m n : ℕ} → signing.Refused m ≡ signing.Refused n → m ≡ n
 refused-same e = cc

@@ -1,9 +1,9 @@
--- What the entries' definitions share: messages too long, the set of an encoding, refusal numbers (0 for none), and document 01's number for each case of
--- an answer.
+-- What the entries' definitions share: messages too long, the set of an encoding, refusal numbers (0 for none), and document 01's number and values for
+-- each case of an answer.
 -- Assumes nothing.
 use mathlib.Core.Path.{_≡_}
 use mathlib.Core.Bool.{Bool, not, cond}
-use mathlib.Core.List.{List}
+use mathlib.Core.List.{List, [], _∷_}
 use Prim.Native.Nat.{ℕ, zero, suc, _+_}
 use lib.Dec.{ltb, eqb}
 use lib.ListN.{length, getD}
@@ -50,6 +50,30 @@ unlessRefused n written before = cond (eqb n 0) written before
 pub record BufferOutcome {A : Type 0} (n : ℕ) (answer : Answer) (written before after : List A) : Type 0 where
   pub answers : answer ≡ answerOf n
   pub buffer : after ≡ unlessRefused n written before
+
+-- what an answer states in document 01's words: the number, 0 for an accepted call and else the refusal, and the values that come with it
+pub record Stated : Type 0 where
+  pub number : ℕ
+  pub values : List ℕ
+
+abbrev pub stated : ℕ → List ℕ → Stated
+stated number values = record { number = number; values = values }
+
+-- done: no value but what is written
+abbrev pub answerStates : Answer → Stated
+answerStates Done = stated 0 []
+answerStates (Refused n) = stated n []
+
+-- signed: the number of masks passed over
+abbrev pub signingStates : Signing → Stated
+signingStates (signing.Signed n) = stated 0 (n ∷ [])
+signingStates (signing.Refused n) = stated n []
+
+-- checked: 1 for yes and 0 for no, as the row of a 07 prints them
+abbrev pub verdictStates : Verdict → Stated
+verdictStates verdict.Yes = stated 0 (1 ∷ [])
+verdictStates verdict.No = stated 0 (0 ∷ [])
+verdictStates (verdict.Refused n) = stated n []
 
 -- to C: 0 for done, else the refusal number
 abbrev pub numberOf : Answer → ℕ

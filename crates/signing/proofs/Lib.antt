@@ -1,4 +1,5 @@
 pub mod Allowed
+pub mod Stated
 pub mod Entry
 pub mod Masks
 pub mod AcceptedSigning

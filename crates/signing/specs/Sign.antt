@@ -2,7 +2,7 @@
 -- Over any parameter set and any way to draw; the entry itself draws by the document's rule in the set of the key's first byte.
 -- Assumes nothing.
 use mathlib.Core.Bool.{Bool, not, _&&_, cond}
-use mathlib.Core.List.{List}
+use mathlib.Core.List.{List, [], _∷_}
 use mathlib.Core.Option.{Option, none, some}
 use Prim.Native.Nat.{ℕ, _*_, _%_}
 use lib.Dec.{leb, eqb}
@@ -17,7 +17,7 @@ use Rattle.scheme.specs.Scheme.{Drawer, Signed}
 use Rattle.signing.specs.Signer.{signedBy, signedBytes}
 use Rattle.refusal.specs.declared.Signing.{Signing}
 use Rattle.refusal.specs.declared.Signing.the-variants as answer
-use Rattle.refusal.specs.Answer.{setByte, setIn, isLong, inSetOf, unlessRefused}
+use Rattle.refusal.specs.Answer.{setByte, setIn, isLong, inSetOf, unlessRefused, Stated, stated}
 use Rattle.refusal.specs.Numbers.{wrongLength, wrongExponents, wrongKey, wrongMask, nonePasses}
 
 -- ---- what refuses a signing before its masks are tried
@@ -56,6 +56,14 @@ signedAnswer (some r) = answer.Signed (r .passedOver)
 abbrev pub signingAfter : ℕ → Option Signed → Signing
 signingAfter refusal signed = cond (eqb refusal 0) (signedAnswer signed) (answer.Refused refusal)
 
+-- the same in document 01's number and values: the number of masks passed over comes with an accepted signing
+abbrev pub signedStated : Option Signed → Stated
+signedStated none = stated nonePasses []
+signedStated (some r) = stated 0 (r .passedOver ∷ [])
+
+abbrev pub statedAfter : ℕ → Option Signed → Stated
+statedAfter refusal signed = cond (eqb refusal 0) (signedStated signed) (stated refusal [])
+
 abbrev pub writtenAfter : ℕ → ℕ → Option Signed → List ℕ → List ℕ
 writtenAfter refusal s signed out = unlessRefused refusal (signedBytes s signed out) out
 
@@ -66,10 +74,13 @@ module _ (draw : Drawer) (p : Params) (key exponents : List ℕ) (masks : List �
   unfoldable pub signWrittenIn : List ℕ
   signWrittenIn = writtenAfter (signRefusalIn p key exponents masks (length out)) (setByte key) (signedBy draw p (keyOf key) exponents masks message) out
 
--- the entry: what it answers, and its buffer after it
+-- the entry: what it answers, what that states, and its buffer after it
 module _ (key exponents : List ℕ) (masks : List ℤ) (message out : List ℕ) where
   unfoldable pub signAnswer : Signing
   signAnswer = signingAfter (signRefusal key exponents masks message out) (signedBy drawChallenge (setIn key) (keyOf key) exponents masks message)
+
+  unfoldable pub signStated : Stated
+  signStated = statedAfter (signRefusal key exponents masks message out) (signedBy drawChallenge (setIn key) (keyOf key) exponents masks message)
 
   unfoldable pub signWritten : List ℕ
   signWritten =

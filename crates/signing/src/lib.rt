@@ -4,11 +4,12 @@ ghost use mathlib.Core.List.{_∷_};
 ghost use Rattle.challenge.specs.Draw.{drawChallenge};
 ghost use Rattle.parameters.specs.Ring.{Usable};
 ghost use Rattle.parameters.specs.Sound.{Fitting, Sound};
-ghost use Rattle.signing.specs.Sign.{areWhole, signLengths, signRefusalIn, signAnswerIn, signWrittenIn, signAnswer, signWritten};
+ghost use Rattle.signing.specs.Sign.{areWhole, signLengths, signRefusalIn, signAnswerIn, signWrittenIn, signAnswer, signStated, signWritten};
 ghost use lib.ListN.{length};
 ghost use Rattle.encoding.specs.Challenge.{entriesOf};
 ghost use Rattle.encoding.specs.Encoding.{signatureSize, signatureBytes};
 ghost use Rattle.polynomial.specs.Sparse.{Sparse};
+ghost use Rattle.refusal.specs.Answer.{signingStates};
 ghost use Rattle.scheme.specs.Scheme.{attempt, signatureInRange};
 ghost use Rattle.signing.specs.Asks.{TernaryKey, Points, Writable};
 ghost use Rattle.signing.specs.Signer.{offeredCount, signedBy, Offered, Attempted};
@@ -203,6 +204,8 @@ pub fn sign(
     out: &mut [u8],
 ) -> Signing
     ensures answer { λ r. ⌜ r ≡ signAnswer (now («secret_key» .entry)) (now (exponents .entry)) (now (masks .entry))
+        (now (message .entry)) (now (out .entry)) ⌝ }
+    ensures number { λ r. ⌜ signingStates r ≡ signStated (now («secret_key» .entry)) (now (exponents .entry)) (now (masks .entry))
         (now (message .entry)) (now (out .entry)) ⌝ }
     ensures written { λ _. ⌜ now (out .exit) ≡ signWritten (now («secret_key» .entry)) (now (exponents .entry)) (now (masks .entry))
         (now (message .entry)) (now (out .entry)) ⌝ }

@@ -1,6 +1,7 @@
 // The drawer as an entry.
 ghost use mathlib.Core.Path.{_≡_};
-ghost use Rattle.refusal.specs.Answer.{answerOf};
+ghost use mathlib.Core.List.{[]};
+ghost use Rattle.refusal.specs.Answer.{answerOf, stated, answerStates};
 ghost use Rattle.values.specs.Draw.{drawLengths, drawRefusal, drawWritten};
 use challenge::draw_from;
 use encoding::numbers::copy_i8;
@@ -22,6 +23,7 @@ fn has_draw_lengths(p: Params, pool: usize, room: usize) -> bool
 // Draws the challenge of a pool, N coefficients. Refuses with 2, 1, 11.
 pub fn draw(set: u8, pool: &[u8], out: &mut [i8]) -> Answer
     ensures answer { λ r. ⌜ r ≡ answerOf (drawRefusal set (now (pool .entry)) (now (out .entry))) ⌝ }
+    ensures number { λ r. ⌜ answerStates r ≡ stated (drawRefusal set (now (pool .entry)) (now (out .entry))) [] ⌝ }
     ensures written { λ r. ⌜ now (out .exit) ≡ drawWritten set (now (pool .entry)) (now (out .entry)) ⌝ }
 {
     if !is_set(set) {

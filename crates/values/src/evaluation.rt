@@ -1,6 +1,7 @@
 // The evaluator as an entry.
 ghost use mathlib.Core.Path.{_≡_};
-ghost use Rattle.refusal.specs.Answer.{answerOf};
+ghost use mathlib.Core.List.{[]};
+ghost use Rattle.refusal.specs.Answer.{answerOf, stated, answerStates};
 ghost use Rattle.values.specs.Evaluate.{evaluateRefusalIn, evaluateRefusal, evaluateWritten};
 use encoding::numbers::are_exponents;
 use parameters::Params;
@@ -25,6 +26,7 @@ fn evaluate_refusal(p: Params, size: usize, exponents: &[u16], room: usize) -> u
 // Evaluates N coefficients at the t points. Refuses with 2, 1, 4.
 pub fn evaluate(set: u8, coefficients: &[i16], exponents: &[u16], out: &mut [u32]) -> Answer
     ensures answer { λ r. ⌜ r ≡ answerOf (evaluateRefusal set (now (coefficients .entry)) (now (exponents .entry)) (now (out .entry))) ⌝ }
+    ensures number { λ r. ⌜ answerStates r ≡ stated (evaluateRefusal set (now (coefficients .entry)) (now (exponents .entry)) (now (out .entry))) [] ⌝ }
     ensures written { λ r. ⌜ now (out .exit) ≡ evaluateWritten set (now (coefficients .entry)) (now (exponents .entry)) (now (out .entry)) ⌝ }
 {
     if !is_set(set) {

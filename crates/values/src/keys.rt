@@ -1,13 +1,13 @@
 // The public key of a secret key.
 ghost use mathlib.Core.Path.{_≡_};
 ghost use mathlib.Core.Bool.{true};
-ghost use mathlib.Core.List.{_∷_};
+ghost use mathlib.Core.List.{[], _∷_};
 ghost use lib.ListN.{length};
 ghost use Rattle.parameters.specs.Ring.{Usable};
 ghost use Rattle.parameters.specs.Sound.{Fitting};
 ghost use Rattle.polynomial.specs.Evaluation.{evaluations};
 ghost use Rattle.encoding.specs.Encoding.{areExponents, keyIn};
-ghost use Rattle.refusal.specs.Answer.{answerOf};
+ghost use Rattle.refusal.specs.Answer.{answerOf, stated, answerStates};
 ghost use Rattle.values.specs.Keys.{publicKeyLengths, publicKeyRefusalIn, publicKeyWrittenIn, publicKeyRefusal, publicKeyWritten};
 use encoding::numbers::are_exponents;
 use encoding::public_key::public_key_size;
@@ -91,6 +91,7 @@ fn public_key_in(
 // Writes the public key of an encoded secret key at the t points. Refuses with 1, 2, 1, 4, 5.
 pub fn public_key(secret_key: &[u8], exponents: &[u16], out: &mut [u8]) -> Answer
     ensures answer { λ r. ⌜ r ≡ answerOf (publicKeyRefusal (now («secret_key» .entry)) (now (exponents .entry)) (now (out .entry))) ⌝ }
+    ensures number { λ r. ⌜ answerStates r ≡ stated (publicKeyRefusal (now («secret_key» .entry)) (now (exponents .entry)) (now (out .entry))) [] ⌝ }
     ensures written { λ r. ⌜ now (out .exit) ≡ publicKeyWritten (now («secret_key» .entry)) (now (exponents .entry)) (now (out .entry)) ⌝ }
 {
     let refusal = set_refusal(secret_key);

@@ -12,6 +12,7 @@ use Rattle.encoding.specs.Encoding.{publicKeySize, signatureSize}
 use Rattle.encoding.proofs.Parts.{rest-size}
 use Rattle.refusal.proofs.SetRefusal.{some-bytes}
 use Rattle.checking.specs.Check.{checkAnswer}
+use Rattle.checking.proofs.Stated.{stating}
 use Rattle.checking.proofs.Guard.{Guarded, guard-first, guarded, guarded-sizes, decoded-answer}
 use Rattle.checking.proofs.check.Statement.{statement}
 use Rattle.checking.proofs.check.Tie as tie
@@ -52,7 +53,7 @@ returns c =
     let g = c .before in
     let s = g .before .before .before .before .args in
     let first = guard-first (s .public-key .now) (s .message .now) (s .signature .now) (λ e. c .if1 .taken (g .guard-refusal .ensures ∙ e)) in
-    rw (first, ← g .guard-refusal .ensures, ne-eqb _ 0 (c .if1 .taken))
+    stating _ _ _ (rw (first, ← g .guard-refusal .ensures, ne-eqb _ 0 (c .if1 .taken)))
 
 decode-public-key-requires : tie.Need-decode-public-key-requires
 decode-public-key-requires c κs =
@@ -84,8 +85,9 @@ returns-2 : tie.Need-returns-2
 returns-2 c =
     let d = c .before .before .before .before .before .before .before in
     let r = ring d in
-    c .check-in .ensures
-    ∙ decoded-answer _ _ _ (passed (r .before .before)) (r .ring-of .ensures .params) (d .decode-public-key .ensures .0) (d .decode-public-key .ensures .1)
+    let is = decoded-answer _ _ _ (passed (r .before .before)) (r .ring-of .ensures .params) (d .decode-public-key .ensures .0)
+    (d .decode-public-key .ensures .1) in
+    stating _ _ _ (c .check-in .ensures ∙ is)
 
 pub check-spec : {M : Type 1} → statement M
 check-spec =

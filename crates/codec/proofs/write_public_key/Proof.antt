@@ -6,14 +6,14 @@ use lib.ListN.{length}
 use borrow.Author.Needs.{needs}
 use Rattle.parameters.specs.Sets.{setOf}
 use Rattle.encoding.specs.Encoding.{publicKeySize}
-use Rattle.refusal.proofs.Answering.{refused, kept, set-passed, three-equal}
+use Rattle.refusal.proofs.Answering.{stating, refused, kept, set-passed, three-equal}
 use Rattle.codec.specs.Codec.{writePublicKeyRefusal, writePublicKeyWritten}
 use Rattle.codec.proofs.write_public_key.Statement.{statement}
 use Rattle.codec.proofs.write_public_key.Tie as tie
 
 returns : tie.Need-returns
 unfolding writePublicKeyWritten
-returns c = rw (← c .before .write-public-key-refusal .ensures) (refused _ (c .if1 .taken), kept _ _ _ (c .if1 .taken))
+returns c = rw (← c .before .write-public-key-refusal .ensures) (stating (refused _ (c .if1 .taken), kept _ _ _ (c .if1 .taken)))
 
 put-public-key-requires : tie.Need-put-public-key-requires
 unfolding writePublicKeyRefusal
@@ -27,7 +27,7 @@ returns-2 : tie.Need-returns-2
 unfolding writePublicKeyWritten
 returns-2 c =
     let refusal = c .before .before .before .before .before .write-public-key-refusal .ensures in
-    rw (← refusal, c .before .before .before .before .if1 .left) (refl, c .before .before .put-public-key .ensures)
+    rw (← refusal, c .before .before .before .before .if1 .left) (stating (refl, c .before .before .put-public-key .ensures))
 
 pub write-public-key-spec : {M : Type 1} → statement M
 write-public-key-spec = tie.close (tie.spec (λ c κs. search needs) returns put-public-key-requires (λ c. search needs) returns-2)

@@ -8,7 +8,7 @@ use Rattle.passign_c.proofs.passign_draw.Statement.{statement}
 use Rattle.passign_c.proofs.passign_draw.Tie as tie
 
 returns : tie.Need-returns
-returns c = let e = c .before .before .draw .ensures in (c .number .ensures ∙ ap numberOf (e .0) ∙ numbered _, e .1)
+returns c = let e = c .before .before .draw .ensures in (c .number .ensures ∙ ap numberOf (e .0) ∙ numbered _, e .1 .1)
 
 pub passign-draw-spec : {M : Type 1} → statement M
 passign-draw-spec = tie.close (tie.spec (λ c κs. search needs) (λ c κs. search needs) (λ c. search needs) returns)

@@ -7,10 +7,10 @@ use Rattle.passign_c.proofs.passign_sign.Statement.{statement}
 use Rattle.passign_c.proofs.passign_sign.Tie as tie
 
 returns : tie.Need-returns
-returns c = let e = c .before .before .before .before .before .sign .ensures in (sym (ap signingNumber (sym (e .0) ∙ c .before .s .given .1)), e .1)
+returns c = let e = c .before .before .before .before .before .sign .ensures in (sym (ap signingNumber (sym (e .0) ∙ c .before .s .given .1)), e .1 .1)
 
 returns-2 : tie.Need-returns-2
-returns-2 c = let e = c .before .before .before .before .before .sign .ensures in (sym (ap signingNumber (sym (e .0) ∙ c .before .s2 .given .1)), e .1)
+returns-2 c = let e = c .before .before .before .before .before .sign .ensures in (sym (ap signingNumber (sym (e .0) ∙ c .before .s2 .given .1)), e .1 .1)
 
 pub passign-sign-spec : {M : Type 1} → statement M
 passign-sign-spec =

@@ -7,6 +7,7 @@ use borrow.Author.Tests.{lt-ltb, le-ltb, ne-eqb}
 use Rattle.refusal.specs.Answer.{isLong}
 use Rattle.refusal.proofs.SetRefusal.{some-bytes, set-and-rest, has-set}
 use Rattle.signing.specs.Sign.{signRefusal, signAnswer, signWritten}
+use Rattle.signing.proofs.Stated.{stating}
 use Rattle.signing.proofs.Entry.{Known, set-refused, answer-entry, written-entry}
 use Rattle.signing.proofs.sign.Statement.{statement}
 use Rattle.signing.proofs.sign.Tie as tie
@@ -19,7 +20,7 @@ known c = record { short = short (c .before .before); set = has-set _ (sym (c .b
 
 returns : tie.Need-returns
 unfolding signAnswer signWritten signRefusal
-returns c = rw (lt-ltb 65535 _ (c .if1 .taken)) (refl, refl)
+returns c = stating _ _ _ _ _ (rw (lt-ltb 65535 _ (c .if1 .taken)) (refl, refl))
 
 returns-2 : tie.Need-returns-2
 unfolding signAnswer signWritten
@@ -28,18 +29,18 @@ returns-2 c =
     let r = c .before .set-refusal in
     let is = set-refused (s .secret-key .now) (s .exponents .now) (s .masks .now) (s .message .now) (s .out .now) (short (c .before .before))
     (λ e. c .if2 .taken (r .ensures ∙ e)) in
-    rw (is, ← r .ensures, ne-eqb _ 0 (c .if2 .taken)) (refl, refl)
+    stating _ _ _ _ _ (rw (is, ← r .ensures, ne-eqb _ 0 (c .if2 .taken)) (refl, refl))
 
 returns-3 : tie.Need-returns-3
 returns-3 c =
     let g = c .before .before .before .before .before .before .before .before in
     let k = known (g .before .before) in
     let s = g .before .before .before .before .before .before .before .before .before .args in
-    rw (
+    stating _ _ _ _ _ (rw (
       answer-entry (s .secret-key .now) (s .exponents .now) (s .masks .now) (s .message .now) (s .out .now) k,
       written-entry (s .secret-key .now) (s .exponents .now) (s .masks .now) (s .message .now) (s .out .now) k,
       ← g .ring-of .ensures .params,
-    ) (rw (set-and-rest (k .set)) at (c .before .before .sign-in .ensures))
+    ) (rw (set-and-rest (k .set)) at (c .before .before .sign-in .ensures)))
 
 pub sign-spec : {M : Type 1} → statement M
 sign-spec =

@@ -8,7 +8,7 @@ use Rattle.passign_c.proofs.encodings.passign_write_public_key.Statemen
 use Rattle.passign_c.proofs.encodings.passign_write_public_key.Tie as tie
 
 returns : tie.Need-returns
-returns c = let e = c .before .before .before .write-public-key .ensures in (c .number .ensures ∙ ap numberOf (e .0) ∙ numbered _, e .1)
+returns c = let e = c .before .before .before .write-public-key .ensures in (c .number .ensures ∙ ap numberOf (e .0) ∙ numbered _, e .1 .1)
 
 pub passign-write-public-key-spec : {M : Type 1} → statement M
 passign-write-public-key-spec = tie.close (tie.spec (λ c κs. search needs) (λ c κs. search needs) (λ c. search needs) returns)

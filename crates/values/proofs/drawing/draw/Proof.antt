@@ -14,6 +14,7 @@ use Rattle.parameters.specs.declared.Params.{Params}
 use Rattle.parameters.specs.Sets.{isSet}
 use Rattle.parameters.specs.Sound.{Fitting}
 use Rattle.parameters.proofs.Lookup.{lookup-fitting}
+use Rattle.refusal.proofs.Answering.{stating}
 use Rattle.values.specs.Draw.{isPoolSize, drawLengths, drawRefusal, drawWritten}
 use Rattle.values.proofs.drawing.draw.Statement.{statement}
 use Rattle.values.proofs.drawing.draw.Tie as tie
@@ -44,13 +45,13 @@ module _ (c : tie.Else2) where
 
 returns : tie.Need-returns
 unfolding drawRefusal drawWritten
-returns c = rw (sym (c .before .is-set .ensures) ∙ not-true _ (c .if1 .taken)) (refl, refl)
+returns c = rw (sym (c .before .is-set .ensures) ∙ not-true _ (c .if1 .taken)) (stating (refl, refl))
 
 returns-2 : tie.Need-returns-2
 unfolding drawRefusal drawWritten
 returns-2 c =
     let g = c .before .before in
-    rw (known (g .before), ← g .params-of .ensures, sym (c .before .has-draw-lengths .ensures) ∙ not-true _ (c .if2 .taken)) (refl, refl)
+    rw (known (g .before), ← g .params-of .ensures, sym (c .before .has-draw-lengths .ensures) ∙ not-true _ (c .if2 .taken)) (stating (refl, refl))
 
 returns-3 : tie.Need-returns-3
 unfolding drawRefusal drawWritten
@@ -58,7 +59,7 @@ returns-3 c =
     let d = c .before .before in
     let g = d .before .before .before in
     let spent = not-true (d .draw-from .result .complete) (c .if3 .taken) in
-    rw (known (g .before), ← g .params-of .ensures, lengths (d .before), ← d .draw-from .ensures, spent) (refl, refl)
+    rw (known (g .before), ← g .params-of .ensures, lengths (d .before), ← d .draw-from .ensures, spent) (stating (refl, refl))
 
 -- the challenge stands in front
 module _ (c : tie.After-draw-from) where
@@ -77,7 +78,7 @@ returns-4 c =
     let d = t .before .before in
     let g = d .before .before .before in
     let whole = not-false (d .draw-from .result .complete) (t .if3 .left) in
-    rw (known (g .before), ← g .params-of .ensures, lengths (d .before), ← d .draw-from .ensures, whole) (refl, c .before .copy-i8 .ensures)
+    rw (known (g .before), ← g .params-of .ensures, lengths (d .before), ← d .draw-from .ensures, whole) (stating (refl, c .before .copy-i8 .ensures))
 
 pub draw-spec : {M : Type 1} → statement M
 draw-spec =

@@ -13,7 +13,7 @@ use Rattle.parameters.specs.Sets.{isSet}
 use Rattle.encoding.specs.Encoding.{areExponents}
 use Rattle.encoding.proofs.Evaluating.{exponents-below}
 use Rattle.refusal.proofs.Refusal.{step}
-use Rattle.refusal.proofs.Answering.{refused, kept, three-equal}
+use Rattle.refusal.proofs.Answering.{stating, refused, kept, three-equal}
 use Rattle.values.specs.Evaluate.{evaluateLengths, evaluateRefusalIn, evaluateRefusal, evaluateWritten}
 use Rattle.values.proofs.evaluation.evaluate.Statement.{statement}
 use Rattle.values.proofs.evaluation.evaluate.Tie as tie
@@ -31,13 +31,14 @@ known c = sym (c .before .is-set .ensures) ∙ not-false _ (c .if1 .left)
 
 returns : tie.Need-returns
 unfolding evaluateRefusal evaluateWritten
-returns c = rw (sym (c .before .is-set .ensures) ∙ not-true _ (c .if1 .taken)) (refl, refl)
+returns c = rw (sym (c .before .is-set .ensures) ∙ not-true _ (c .if1 .taken)) (stating (refl, refl))
 
 returns-2 : tie.Need-returns-2
 unfolding evaluateRefusal evaluateWritten
 returns-2 c =
     let g = c .before .before .before in
-    rw (known (g .before), ← g .ring-of .ensures .params, ← c .before .evaluate-refusal .ensures) (refused _ (c .if2 .taken), kept _ _ _ (c .if2 .taken))
+    rw (known (g .before), ← g .ring-of .ensures .params, ← c .before .evaluate-refusal .ensures)
+    (stating (refused _ (c .if2 .taken), kept _ _ _ (c .if2 .taken)))
 
 -- the set looked up, and what a call that is not refused has
 module _ (c : tie.After-evaluate-refusal) where
@@ -66,7 +67,8 @@ unfolding evaluateRefusal evaluateWritten
 returns-3 c =
     let t = c .before .before .before .before .before .before in
     let g = t .before .before .before in
-    rw (known (g .before), ← g .ring-of .ensures .params, ← t .before .evaluate-refusal .ensures, t .if2 .left) (refl, c .before .before .evaluate .ensures)
+    rw (known (g .before), ← g .ring-of .ensures .params, ← t .before .evaluate-refusal .ensures, t .if2 .left)
+    (stating (refl, c .before .before .evaluate .ensures))
 
 pub evaluate-spec : {M : Type 1} → statement M
 evaluate-spec =

@@ -5,7 +5,7 @@ use Prim.Native.Nat.{ℕ}
 use lib.ListN.{length}
 use borrow.Author.Needs.{needs}
 use Rattle.parameters.specs.declared.Params.{Params}
-use Rattle.refusal.proofs.Answering.{refused, kept}
+use Rattle.refusal.proofs.Answering.{stating, refused, kept}
 use Rattle.refusal.proofs.SetRefusal.{HasSet, some-bytes, set-and-rest, no-set, in-a-set, has-set}
 use Rattle.values.specs.Keys.{publicKeyRefusalIn, publicKeyRefusal, publicKeyWrittenIn, publicKeyWritten}
 use Rattle.values.proofs.keys.public_key.Statement.{statement}
@@ -20,7 +20,8 @@ returns c =
     let s = c .before .before .before .before .before .args in
     let refusal : Params → ℕ = λ (p : Params). publicKeyRefusalIn p (s .secret-key .now) (s .exponents .now) (length (s .out .now)) in
     let r = c .before .set-refusal in
-    rw (no-set (s .secret-key .now) refusal (λ e. c .if1 .taken (r .ensures ∙ e)), ← r .ensures) (refused _ (c .if1 .taken), kept _ _ _ (c .if1 .taken))
+    rw (no-set (s .secret-key .now) refusal (λ e. c .if1 .taken (r .ensures ∙ e)), ← r .ensures)
+    (stating (refused _ (c .if1 .taken), kept _ _ _ (c .if1 .taken)))
 
 returns-2 : tie.Need-returns-2
 unfolding publicKeyRefusal publicKeyWritten publicKeyWrittenIn
@@ -29,7 +30,8 @@ returns-2 c =
     let h = known (g .before .before) in
     let s = g .before .before .before .before .before .before .before .args in
     let refusal : Params → ℕ = λ (p : Params). publicKeyRefusalIn p (s .secret-key .now) (s .exponents .now) (length (s .out .now)) in
-    rw (in-a-set (s .secret-key .now) refusal h, ← g .ring-of .ensures .params) (rw (set-and-rest h) at (c .before .before .public-key-in .ensures))
+    rw (in-a-set (s .secret-key .now) refusal h, ← g .ring-of .ensures .params)
+    (stating (rw (set-and-rest h) at (c .before .before .public-key-in .ensures)))
 
 pub public-key-spec : {M : Type 1} → statement M
 public-key-spec =
