@@ -29,6 +29,8 @@ def test_drawn_pools():
     start = bytes.fromhex("02 00000000000000 0007 000C FFFF 0003")
     for length in (64, 128, 512):
         assert draw(HAND, start.ljust(length, b"\0")) == CHALLENGE
+    drawn_before_smaller = bytes.fromhex("01 00000000000000 0004 0001")  # the first index drawn gets the first sign
+    assert draw(HAND, drawn_before_smaller.ljust(64, b"\0")) == [0, 1, 0, 0, -1]
     assert skip_bound(HAND) == 65535
     assert draw(HAND, bytes(64)) is None
     out = [7] * 5

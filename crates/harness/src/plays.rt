@@ -22,7 +22,7 @@ fn at_most(number: u32, most: usize) -> usize
 
 // The number that a row prints, or 256 for a row buffer at fault and 257 for a session that has ended.
 fn number_of(answer: PlayAnswer) -> u32
-    ensures { λ r. ⌜ playNumberOf answer ≡ none → r ≡ 257 ⌝ }
+    ensures { λ r. ⌜ (playNumberOf answer ≡ none → r ≡ 257) ⌝ }
 {
     match answer {
         PlayAnswer::Row(number) => number,

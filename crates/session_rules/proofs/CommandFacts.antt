@@ -28,6 +28,7 @@ use Rattle.refusal.specs.declared.Verdict.{Verdict}
 use Rattle.refusal.specs.declared.Verdict.the-variants as verdict
 use Rattle.signing.specs.Sign.{signAnswer, signWritten}
 use Rattle.passign.specs.Hiding.{ourLibrary}
+use Rattle.passign.proofs.SignatureSize.{entry-signature-size}
 use Rattle.text.specs.Text.{decimal, hex, spaced}
 use Rattle.text.proofs.Text.{length-decimal, length-hex, length-spaced-numbers}
 use Rattle.session_rules.specs.Held.{Chosen, paramsOf, Held, isHeld, given, withMasks}
@@ -44,7 +45,6 @@ use Rattle.session_rules.proofs.CommandTable.{by-known, needs-set, comm
 use Rattle.session_rules.proofs.Kept.{TestedSet, isMask, Kept, gone, kept, kept-as, needed, KeptAll}
 use Rattle.session_rules.proofs.Kept.{keep-exponents, keep-key, keep-evaluations, keep-message, keep-masks, only-set}
 use Rattle.session_rules.proofs.Library.{sound, fitting, sign-refused, check-refused}
-use Rattle.session_rules.proofs.Signature.{signature-size}
 
 -- a command that was played; what is read of it does not look at its buffer
 abbrev pub played : ℕ → List ℕ → ℕ → Event
@@ -198,7 +198,7 @@ module _ (m : Material) (a : Available) (h : Held) (w : KeptAll m a h) (op : Lis
       refusal = λ z. absurd (z refl);
       accepted-ends = λ z. refl;
       short =
-          let size = rw (← b, ← s .own) at (signature-size (callWith m) e) in
+          let size = rw (← b, ← s .own) at (entry-signature-size _ _ _ _ _ e) in
           omega (arith, length-append (spaced (decimal i)) (spaced (hex bytes)), length-decimal i, length-hex bytes, fitting s .size, fitting s .weight);
     }
     after-answer (signing.Refused n) bytes e b nine =

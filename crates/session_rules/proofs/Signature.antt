@@ -1,11 +1,10 @@
--- The signature of an accepted signing: its bytes are bytes, and as many as the set says.
+-- The signature of an accepted signing: its bytes are bytes.
 -- Assumes nothing.
-use mathlib.Core.Path.{_≡_, ap, _∙_}
+use mathlib.Core.Path.{_≡_, _∙_}
 use mathlib.Core.List.{_++_, map}
 use Prim.Native.Nat.{ℕ, _<_}
 use native.Mathlib.Omega.{arith}
 use lib.Dec.{T, ltb, lt→ltb}
-use lib.ListN.{length}
 use borrow.Author.Tests.{ltb-true}
 use Rattle.algebra.proofs.Test.{and-intro}
 use Rattle.parameters.specs.Sets.{setOf}
@@ -14,15 +13,13 @@ use Rattle.algebra.specs.All.{areBelow}
 use Rattle.encoding.specs.Bytes.{encoded, bits16}
 use Rattle.encoding.proofs.Writing.{below-append, encoded-below}
 use Rattle.encoding.specs.Challenge.{entriesOf}
-use Rattle.encoding.specs.Encoding.{signatureSize, signatureBytes}
+use Rattle.encoding.specs.Encoding.{signatureBytes}
 use Rattle.scheme.specs.Scheme.{Signed, Signature}
 use Rattle.signing.specs.Signer.{signatureOf}
 use Rattle.refusal.specs.declared.Signing.the-variants as signing
 use Rattle.refusal.specs.Answer.{setByte}
 use Rattle.passign.specs.Hiding.{Call, ourLibrary}
 use Rattle.signing.proofs.AcceptedSigning.{SignedAs, accepted-signing, signed-bytes}
-use Rattle.passign.proofs.AcceptedBytes.{bytes-size}
-use Rattle.passign.proofs.FiveSets.{set-encodable}
 use Rattle.passign.proofs.Entry.{SignedInSet, sign-entry}
 
 signature-bytes-below : (set : ℕ) (s : Signature) → set < 256 → T (areBelow 256 (signatureOf set s))
@@ -44,9 +41,6 @@ module _ (call : Call) {i : ℕ} (e : ourLibrary .signs call ≡ signing.Signed 
 
   behind : (r : Signed) × SignedAs drawChallenge (setOf set) (call .key) (call .exponents) (call .masks) (call .message) (call .out) r i
   behind = accepted-signing drawChallenge (setOf set) (call .key) (call .exponents) (call .masks) (call .message) (call .out) (in-set .answer)
-
-  pub signature-size : length (ourLibrary .writes call) ≡ signatureSize (setOf (setByte (call .key)))
-  signature-size = ap length (in-set .written) ∙ bytes-size (behind .1) (set-encodable set known)
 
   pub signature-below : T (areBelow 256 (ourLibrary .writes call))
   signature-below = rw (in-set .written ∙ signed-bytes (behind .1)) (signature-bytes-below set (behind .0 .signature) (omega (arith, known)))
