@@ -6,6 +6,7 @@ pub mod TurnsByRules
 pub mod Whole
 pub mod FileOfPlays
 pub mod FirstPassingOfPlays
+pub mod VerdictsOfPlays
 pub mod HidingOfPlays
 pub mod EndOfPlays
 pub mod OrdinalsOfPlays

@@ -1,18 +1,21 @@
 -- What holds of a file that `play_file`, or the program `play`, has played: its contract alone (`PlayedWhole`) gives the turns, and with them all that is
--- proved of the code's plays. The commands played are the file, up to a last row; each accepted 06 signs with the first mask that passes; every accepted
--- signature hides its key.
+-- proved of the code's plays. The commands played are the file, up to a last row; each accepted 06 signs with the first mask that passes, and each accepted
+-- 07 prints the paper's verdict; every accepted signature hides its key.
 -- Assumes nothing.
 use mathlib.Core.List.{List}
 use Prim.Native.Nat.{ℕ}
 use Rattle.session_rules.specs.Plays.{Event, noMaterial}
 use Rattle.session_rules.specs.FilePlayed.{LastRow}
+use Rattle.session_rules.specs.HeldIsRead.{noneAvailable}
 use Rattle.session_rules.specs.FirstPassing.{EachSignsByFirst}
+use Rattle.session_rules.specs.Verdicts.{EachVerdict}
 use Rattle.session_rules.specs.KeysHidden.{KeysHidden}
 use Rattle.session.specs.declared.Session as code
 use Rattle.session.specs.Turns.{turnEvents}
 use Rattle.session.specs.WholeFile.{PlayedWhole}
 use Rattle.session.proofs.FileOfPlays.{plays-are-the-file}
 use Rattle.session.proofs.FirstPassingOfPlays.{first-passing-signs-in-plays}
+use Rattle.session.proofs.VerdictsOfPlays.{verdicts-by-the-rule-in-plays}
 use Rattle.session.proofs.HidingOfPlays.{hiding-of-plays}
 
 module _ (file : List ℕ) (s : code.Session) (w : PlayedWhole file s) where
@@ -27,6 +30,9 @@ module _ (file : List ℕ) (s : code.Session) (w : PlayedWhole file s) where
 
   pub whole-file-signs-by-first : EachSignsByFirst noMaterial wholeEvents
   whole-file-signs-by-first = let p = w .played in first-passing-signs-in-plays (p .first) (p .opens) file (p .turns) (p .allowed)
+
+  pub whole-file-verdicts : EachVerdict noMaterial noneAvailable wholeEvents
+  whole-file-verdicts = let p = w .played in verdicts-by-the-rule-in-plays (p .first) (p .opens) file (p .turns) (p .allowed)
 
   pub whole-file-hides : KeysHidden wholeEvents
   whole-file-hides = let p = w .played in hiding-of-plays (p .first) (p .opens) file (p .turns) (p .allowed)

@@ -19,32 +19,35 @@ use Rattle.parameters.specs.declared.Params.{Params}
 use Rattle.parameters.specs.Sets.{isSet}
 use Rattle.polynomial.proofs.EvaluationLaws.{length-evaluations, evaluations-below}
 use Rattle.encoding.specs.Bytes.{numbers, signed16}
-use Rattle.encoding.specs.Encoding.{isKeyByte, keyCoefficient, areExponents, areEvaluations}
+use Rattle.encoding.specs.Challenge.{areEntries}
+use Rattle.encoding.specs.Encoding.{isKeyByte, keyCoefficient, areExponents, areEvaluations, entriesIn}
 use Rattle.encoding.proofs.Parts.{length-numbers}
+use Rattle.challenge.specs.Draw.{drawChallenge}
+use Rattle.scheme.specs.Scheme.{verdict}
 use Rattle.refusal.specs.Numbers.{nonePasses}
 use Rattle.refusal.specs.declared.Signing.{Signing}
 use Rattle.refusal.specs.declared.Signing.the-variants as signing
-use Rattle.refusal.specs.declared.Verdict.{Verdict}
-use Rattle.refusal.specs.declared.Verdict.the-variants as verdict
 use Rattle.signing.specs.Sign.{signAnswer, signWritten}
+use Rattle.checking.specs.Check.{bodyRead, verdictAfter}
 use Rattle.passign.specs.Hiding.{ourLibrary}
 use Rattle.passign.proofs.SignatureSize.{entry-signature-size}
 use Rattle.text.specs.Text.{decimal, hex, spaced}
 use Rattle.text.proofs.Text.{length-decimal, length-hex, length-spaced-numbers}
 use Rattle.session_rules.specs.Held.{Chosen, paramsOf, Held, isHeld, given, withMasks}
 use Rattle.session_rules.specs.CommandTable.{commandTable, commandOf, forLoading, forSigning, forChecking}
-use Rattle.session_rules.specs.Commands.{Payload, nothing, signed, Result, accepted, refused, keyEvaluations, maskOf, commandIn, command}
+use Rattle.session_rules.specs.Commands.{Payload, nothing, signed, judged, Result, accepted, refused, keyEvaluations, maskOf, commandIn, command}
 use Rattle.session_rules.specs.Commands.{chooseSet, loadExponents, loadKey, loadMask, loadMessage, loadEvaluations}
 use Rattle.session_rules.specs.Commands.{afterSigning, callSigning, sign, afterCheck, check}
 use Rattle.session_rules.specs.Rows.{payloadText}
 use Rattle.session_rules.specs.Play.{lacksSet}
 use Rattle.session_rules.specs.Plays.{Event, Material, paramsIn, readSet, callWith, chosenBy, firstPassing, withAccepted, withCommand}
 use Rattle.session_rules.specs.HeldIsRead.{Available, availableWithAccepted, availableWith}
+use Rattle.session_rules.specs.Verdicts.{holdsOf}
 use Rattle.session_rules.specs.Refusals.{isEnding}
 use Rattle.session_rules.proofs.CommandTable.{by-known, needs-set, command-set, command-in}
 use Rattle.session_rules.proofs.Kept.{TestedSet, isMask, Kept, gone, kept, kept-as, needed, KeptAll}
 use Rattle.session_rules.proofs.Kept.{keep-exponents, keep-key, keep-evaluations, keep-message, keep-masks, only-set}
-use Rattle.session_rules.proofs.Library.{sound, fitting, sign-refused, check-refused}
+use Rattle.session_rules.proofs.Library.{sound, fitting, sign-refused, check-by-rule}
 
 -- a command that was played; what is read of it does not look at its buffer
 abbrev pub played : ℕ → List ℕ → ℕ → Event
@@ -81,6 +84,7 @@ pub record CommandFacts (m : Material) (a : Available) (h : Held) (b : ℕ) (op 
   pub keeps : KeptAll (withCommand m (played b op (d .number))) (availableWith m a (played b op (d .number))) (d .held)
   pub signs : b ≡ 6 → d .number ≡ 0 → SignedWith m (d .payload)
   pub nine : b ≡ 6 → d .number ≡ nonePasses → NineWith m
+  pub judges : b ≡ 7 → d .number ≡ 0 → d .payload ≡ judged (cond (holdsOf m a op) 1 0)
   pub refusal : (d .number ≡ 0 → ⊥) → RefusalFacts h ended d
   pub accepted-ends : d .number ≡ 0 → ended ≡ eqb b 0
   pub short : length (payloadText (d .payload)) ≤ 12700
@@ -93,18 +97,21 @@ module _ (m : Material) (a : Available) (h : Held) (w : KeptAll m a h) (op : Lis
     keeps = rw (z, q) w;
     signs = λ s y. absurd (eqb-false n 0 z y);
     nine = λ s y. absurd (eqb-false n 9 q y);
+    judges = λ s y. absurd (eqb-false n 0 z y);
     refusal = λ y. record { leaves = rw q; alone = refl; ends = e };
     accepted-ends = λ y. absurd (eqb-false n 0 z y);
     short = omega arith;
   }
 
-  -- an accepted command other than 06
-  pub accepted-facts : (b : ℕ) {ended : Bool} {next : Held} {x : Payload} → eqb b 6 ≡ false → ended ≡ eqb b 0 → length (payloadText x) ≤ 12700
+  -- an accepted command other than 06 and 07
+  pub accepted-facts : (b : ℕ) {ended : Bool} {next : Held} {x : Payload} → eqb b 6 ≡ false → eqb b 7 ≡ false → ended ≡ eqb b 0
+      → length (payloadText x) ≤ 12700
       → KeptAll (withCommand m (played b op 0)) (availableWith m a (played b op 0)) next → CommandFacts m a h b op ended (accepted next x)
-  accepted-facts b other ends short keeps = record {
+  accepted-facts b other seventh ends short keeps = record {
     keeps = keeps;
     signs = λ s y. absurd (eqb-false b 6 other s);
     nine = λ s y. absurd (eqb-false b 6 other s);
+    judges = λ s y. absurd (eqb-false b 7 seventh s);
     refusal = λ y. absurd (y refl);
     accepted-ends = λ y. ends;
     short = short;
@@ -124,7 +131,7 @@ module _ (m : Material) (a : Available) (h : Held) (w : KeptAll m a h) (op : Lis
   set-facts =
       let byte = getD op 0 0 in
       unless 1 2 refl refl refl (isSet byte)
-      (λ e. accepted-facts 1 refl refl (omega arith)
+      (λ e. accepted-facts 1 refl refl refl (omega arith)
       (only-set (readSet m (chosenBy byte)) (a .values) (kept (record { known = ltb-true byte 5 e; own = refl }))))
 
   -- in the set read
@@ -140,7 +147,7 @@ module _ (m : Material) (a : Available) (h : Held) (w : KeptAll m a h) (op : Lis
     exponents-facts =
         let js = numbers 2 (p .t) op in
         unless 2 4 refl refl refl (areExponents p js)
-        (λ e. accepted-facts 2 refl refl (omega arith)
+        (λ e. accepted-facts 2 refl refl refl (omega arith)
         (keep-evaluations (keep-key (keep-exponents w js (kept (record { size = length-numbers 2 (p .t) op; rise = e }))) _ gone) _ gone))
 
     key-facts : T (isHeld (h .exponents)) → length op ≡ p .n → Facts 3 (loadKey c h op)
@@ -151,7 +158,7 @@ module _ (m : Material) (a : Available) (h : Held) (w : KeptAll m a h) (op : Lis
         let count = length-evaluations p (map keyCoefficient op) (given (h .exponents)) ∙ tested .size in
         let below = evaluations-below (sound s) (map keyCoefficient op) (given (h .exponents)) in
         unless 3 5 refl refl refl (all isKeyByte op)
-        (λ e. accepted-facts 3 refl refl
+        (λ e. accepted-facts 3 refl refl refl
         (omega (arith, length-spaced-numbers (p .q) vs (omega (arith, fitting s .modulus)) below, count, fitting s .exponents, fitting s .size))
         (keep-evaluations (keep-key w op (kept (record { size = size; bytes = e }))) _
         (kept-as (ap (λ (l : List ℕ). keyEvaluations p l op) same) (record { size = count; below = holds-true (areEvaluations p vs) below }))))
@@ -163,7 +170,7 @@ module _ (m : Material) (a : Available) (h : Held) (w : KeptAll m a h) (op : Lis
         let count = length-map (numbers 2 (p .n) op) signed16 ∙ length-numbers 2 (p .n) op in
         cond-by (Facts 4) (leb 8 (length (h .masks))) (λ f. refused-facts 4 8 refl refl refl)
         (λ f. unless 4 6 refl refl refl (within (p .k) y)
-        (λ e. accepted-facts 4 refl refl (omega arith)
+        (λ e. accepted-facts 4 refl refl refl (omega arith)
         (keep-masks w (ap (λ (l : List (List ℤ)). l ++ (y ∷ [])) (w .masks .0)) (record {
           each =
               rw (
@@ -178,7 +185,7 @@ module _ (m : Material) (a : Available) (h : Held) (w : KeptAll m a h) (op : Lis
 
     message-facts : length op ≡ 64 → Facts 5 (loadMessage c h op)
     unfolding loadMessage withCommand withAccepted availableWith availableWithAccepted
-    message-facts size = accepted-facts 5 refl refl (omega arith) (keep-message w op (kept (record { size = size })))
+    message-facts size = accepted-facts 5 refl refl refl (omega arith) (keep-message w op (kept (record { size = size })))
 
     first-signs : {i : ℕ} → answerWith m ≡ signing.Signed i → firstPassing m ≡ i
     unfolding firstPassing
@@ -195,6 +202,7 @@ module _ (m : Material) (a : Available) (h : Held) (w : KeptAll m a h) (op : Lis
       }));
       signs = λ six z. record { set = s; answer = rw (first-signs e) e; payload = rw (first-signs e, b) };
       nine = λ six z. absurd (omega arith);
+      judges = λ seven z. absurd (omega arith);
       refusal = λ z. absurd (z refl);
       accepted-ends = λ z. refl;
       short =
@@ -206,6 +214,7 @@ module _ (m : Material) (a : Available) (h : Held) (w : KeptAll m a h) (op : Lis
           keeps = keep-masks w refl (record { each = tt; few = omega arith });
           signs = λ six z. absurd (omega arith);
           nine = λ six z. record { set = s; answer = e ∙ ap signing.Refused (nine n e) };
+          judges = λ seven z. absurd (omega arith);
           refusal = λ z. record { leaves = refl; alone = refl; ends = refl };
           accepted-ends = λ z. absurd (omega arith);
           short = omega arith;
@@ -226,24 +235,42 @@ module _ (m : Material) (a : Available) (h : Held) (w : KeptAll m a h) (op : Lis
         after-answer (callSigning c h signAnswer) (callSigning c h signWritten) same (rw (js, ks, ts, w .masks .0))
         (λ n e. sign-refused s key exponents (w .masks .1) message n (sym same ∙ e))
 
-    after-check : (x : Verdict) → ((n : ℕ) → x ≡ verdict.Refused n → n ≡ 12) → Facts 7 (afterCheck c h x)
+    -- an accepted 07, whose row prints v
+    judged-facts : (v : ℕ) → v ≡ cond (holdsOf m a op) 1 0 → Facts 7 (accepted h (judged v))
     unfolding withCommand withAccepted availableWith availableWithAccepted
-    after-check verdict.Yes twelve = accepted-facts 7 refl refl (omega (arith, length-decimal 1)) w
-    after-check verdict.No twelve = accepted-facts 7 refl refl (omega (arith, length-decimal 0)) w
-    after-check (verdict.Refused n) twelve = rw (twelve n refl) (refused-facts 7 12 refl refl refl)
+    judged-facts v e = record {
+      keeps = w;
+      signs = λ six z. absurd (omega arith);
+      nine = λ six z. absurd (omega arith);
+      judges = λ seven z. ap judged e;
+      refusal = λ z. absurd (z refl);
+      accepted-ends = λ z. refl;
+      short = omega (arith, length-decimal v);
+    }
+
+    -- the check's answer, by the test of the entries and by the rule
+    after-check : (entries holds : Bool) → holds ≡ holdsOf m a op → Facts 7 (afterCheck c h (verdictAfter (cond (not entries) 12 0) holds))
+    after-check true true e = judged-facts 1 (rw (← e))
+    after-check true false e = judged-facts 0 (rw (← e))
+    after-check false holds e = refused-facts 7 12 refl refl refl
 
     check-facts : T (forChecking h) → length op ≡ 2 * p .b + 2 * p .n → Facts 7 (check c h op)
     unfolding check
     check-facts n size =
         let (j, (v, t)) = three (isHeld (h .exponents)) (isHeld (h .evaluations)) (isHeld (h .message)) n in
-        after-check _ (check-refused s (needed (w .exponents) j .1) (needed (w .evaluations) v .1) (needed (w .message) t .1) op size)
+        let (js, exponents) = needed (w .exponents) j in
+        let (vs, evaluations) = needed (w .evaluations) v in
+        let (ts, message) = needed (w .message) t in
+        let holds = verdict drawChallenge p (given (h .exponents)) (given (h .message)) (given (h .evaluations)) (bodyRead p op) in
+        rw (check-by-rule s exponents evaluations message op size)
+        (after-check (areEntries (p .n) (entriesIn p op)) holds (rw (js, vs, ts)))
 
     evaluations-facts : Facts 8 (loadEvaluations c h op)
     unfolding loadEvaluations withCommand withAccepted availableWith availableWithAccepted
     evaluations-facts =
         let vs = numbers 3 (p .t) op in
         unless 8 7 refl refl refl (areEvaluations p vs)
-        (λ e. accepted-facts 8 refl refl (omega arith)
+        (λ e. accepted-facts 8 refl refl refl (omega arith)
         (keep-evaluations (keep-key w _ gone) vs (kept (record { size = length-numbers 3 (p .t) op; below = e }))))
 
     -- 02 to 08

@@ -6,6 +6,7 @@ pub mod FilePlayed
 pub mod HidingOfSessions
 pub mod MasksInOrder
 pub mod FirstPassing
+pub mod Verdicts
 pub mod Ordinals
 pub mod RowSize
 pub mod After

@@ -1,7 +1,7 @@
--- What a session holds is never refused by the library's signing but with 9, nor by its check but with 12.
+-- What a session holds is never refused by the library's signing but with 9, nor by its check but with 12; the check's verdict is the paper's rule.
 -- Assumes nothing.
 use mathlib.Core.Path.{_≡_, refl, sym, ap, _∙_}
-use mathlib.Core.Bool.{Bool, true, false, not, cond}
+use mathlib.Core.Bool.{true, not, cond}
 use mathlib.Core.List.{List, [], _∷_, _++_, flatten}
 use mathlib.Core.Option.{Option, none, some}
 use Prim.Native.Nat.{ℕ, zero, suc, _*_, _/_, _+_, _<_}
@@ -26,11 +26,10 @@ use Rattle.scheme.specs.Scheme.{Signed, verdict}
 use Rattle.encoding.specs.Bytes.{parts}
 use Rattle.signing.specs.Signer.{masksOf, maskAt, signedBy}
 use Rattle.refusal.specs.declared.Signing.the-variants as signing
-use Rattle.refusal.specs.declared.Verdict.the-variants as answer
 use Rattle.signing.specs.Sign.{areMasks, signRefusalIn, signRefusal, signedAnswer, signAnswer}
-use Rattle.checking.specs.Check.{bodyRead, checkRefusalOf, answerOn, checkAnswer}
+use Rattle.checking.specs.Check.{bodyRead, checkRefusalOf, verdictAfter, answerOn, checkAnswer}
 use Rattle.checking.proofs.Encoded.{encoded-answer}
-use Rattle.refusal.proofs.Apart.{refused-same, refused-not-signed, refused-not-yes, refused-not-no}
+use Rattle.refusal.proofs.Apart.{refused-same, refused-not-signed}
 use Rattle.session_rules.specs.Held.{Chosen}
 use Rattle.session_rules.specs.Commands.{signatureRoom}
 use Rattle.session_rules.proofs.Kept.{TestedSet, isMask, TestedExponents, TestedKey, TestedEvaluations, TestedMessage, TestedMasks}
@@ -95,12 +94,6 @@ signed-or-nine : (o : Option Signed) (n : ℕ) → signedAnswer o ≡ signing.Re
 signed-or-nine none n e = sym (refused-same e)
 signed-or-nine (some r) n e = absurd (refused-not-signed (sym e))
 
-answered : (entries says : Bool) (n : ℕ)
-    → cond (eqb (cond (not entries) 12 0) 0) (cond says answer.Yes answer.No) (answer.Refused (cond (not entries) 12 0)) ≡ answer.Refused n → n ≡ 12
-answered true true n e = absurd (refused-not-yes (sym e))
-answered true false n e = absurd (refused-not-no (sym e))
-answered false says n e = let f : 12 ≡ n = cc in sym f
-
 module _ {c : Chosen} (s : TestedSet c) where
   abbrev p : Params
   p = c .params
@@ -135,11 +128,11 @@ module _ {c : Chosen} (s : TestedSet c) where
 
   module _ {exponents vs message : List ℕ} (j : TestedExponents p exponents) (v : TestedEvaluations p vs) (m : TestedMessage message)
       (op : List ℕ) (size : length op ≡ 2 * p .b + 2 * p .n) where
-    pub check-refused : (n : ℕ) → checkAnswer (publicKey (c .byte) exponents vs) message (c .byte ∷ op) ≡ answer.Refused n → n ≡ 12
+    -- it answers by the test of the entries and by the paper's rule
+    pub check-by-rule : checkAnswer (publicKey (c .byte) exponents vs) message (c .byte ∷ op)
+        ≡ verdictAfter (cond (not (areEntries (p .n) (entriesIn p op))) 12 0) (verdict drawChallenge p exponents message vs (bodyRead p op))
     unfolding answerOn checkRefusalOf
-    check-refused n e =
+    check-by-rule =
         let known = lt-ltb (c .byte) 5 (s .known) in
         let asked = rw (← s .own) at (encoded-answer (c .byte) exponents vs message op known (omega arith)) in
-        let on-lists = asked (j .size) (j .rise) (v .size) (v .below) size in
-        answered (areEntries (p .n) (entriesIn p op)) (verdict drawChallenge p exponents message vs (bodyRead p op)) n
-        (rw (j .rise, v .below) at (sym on-lists ∙ e))
+        rw (j .rise, v .below) at (asked (j .size) (j .rise) (v .size) (v .below) size)

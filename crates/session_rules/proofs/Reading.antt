@@ -3,23 +3,30 @@
 use mathlib.Core.Path.{_≡_, refl, sym, ap, ap₂, _∙_}
 use mathlib.Core.Bool.{Bool, true, false, true≢false, not, _&&_, _||_, cond}
 use mathlib.Core.List.{List, [], _∷_, _++_, append-assoc, append-nil}
+use mathlib.Core.Option.{Option}
 use Prim.Native.Nat.{ℕ, suc, _+_, _≤_, _<_}
 use native.Mathlib.Numerals.{add-one}
 use native.Mathlib.Omega.{arith}
 use lib.Dec.{T, ltb, leb, eqb, eqb→eq}
 use lib.ListN.{length, getD, take, drop, length-append}
 use lib.Seq.{take-suc, take-add}
-use borrow.Author.Tests.{lt-ltb, ne-eqb}
+use borrow.Author.Tests.{lt-ltb, eqb-true, eqb-false, ne-eqb}
 use Rattle.algebra.proofs.Test.{and-left, and-right, true-holds, by-test}
-use Rattle.session_rules.specs.Play.{Session, opened, Step, isTagged, sizeDue, operandDue, step, Outcome}
-use Rattle.session_rules.specs.Plays.{Event, eventOf, eventsFrom}
+use Rattle.session_rules.specs.Held.{Chosen, paramsOf}
+use Rattle.session_rules.specs.CommandTable.{commandTable, commandOf}
+use Rattle.session_rules.specs.Play.{Session, opened, Step, isTagged, lacksSet, byteDue, sizeDue, operandDue, step, Outcome}
+use Rattle.session_rules.specs.Plays.{Event, eventOf, eventsFrom, events, Material, noMaterial, paramsIn}
+use Rattle.session_rules.specs.HeldIsRead.{Available, noneAvailable}
+use Rattle.session_rules.specs.Refusals.{isEnding}
 use Rattle.session_rules.specs.After.{after}
 use Rattle.session_rules.specs.Ordinals.{isBeforeFirst}
-use Rattle.session_rules.specs.FilePlayed.{tag, commandBytes, behindTag, bytesRead, LastRow, FilePlayed}
+use Rattle.session_rules.specs.FilePlayed.{tag, commandBytes, behindTag, bytesRead, LastRow, IsSized, EachSized}
 use Rattle.session_rules.proofs.After.{play-by}
 use Rattle.session_rules.proofs.Ending.{ended-stays}
 use Rattle.session_rules.proofs.Cases.{placeDue, operand-whole, step-by}
-use Rattle.session_rules.proofs.Reaching.{rowEvent}
+use Rattle.session_rules.proofs.CommandTable.{needs-set}
+use Rattle.session_rules.proofs.Kept.{TestedSet, Kept, gone, kept, KeptAll}
+use Rattle.session_rules.proofs.Reaching.{kept-opened, rowEvent, plays-by}
 
 -- ---- one command more
 
@@ -204,14 +211,20 @@ module _ (file : List ℕ) where
             };
       }
 
+  -- what all plays have read
+  pub record ReadBy (es : List Event) (s : Session) : Type 0 where
+    pub read : s .ended ≡ false → take (s .place) file ≡ bytesRead es
+    pub place : s .ended ≡ false → s .place ≡ length (bytesRead es)
+    pub ends : s .ended ≡ true → LastRow file es
+
   pub read-from : (s : Session) (es : List Event) → Reading es s → (buffers : List (List ℕ))
-      → FilePlayed file (es ++ eventsFrom s file buffers) (after s file buffers)
+      → ReadBy (es ++ eventsFrom s file buffers) (after s file buffers)
   unfolding eventsFrom after
   read-from s es r [] =
       rw (append-nil es) (record { read = λ g. r .read; place = λ g. r .place; ends = λ g. absurd (true≢false (sym g ∙ r .goes)) })
   read-from s es r (buffer ∷ buffers) =
       play-by s file buffer
-      (λ (o : Outcome). FilePlayed file (es ++ (eventOf s file o ++ eventsFrom (o .session) file buffers)) (after (o .session) file buffers))
+      (λ (o : Outcome). ReadBy (es ++ (eventOf s file o ++ eventsFrom (o .session) file buffers)) (after (o .session) file buffers))
       (λ h. read-from s es r buffers) (λ h. read-from s es r buffers)
       (λ h g.
       let e = rowEvent s file buffer in
@@ -225,3 +238,30 @@ module _ (file : List ℕ) where
         ends = λ z. lasts es s r e refl refl refl f;
       }))
       (λ f. rw (← append-assoc es (e ∷ []) (eventsFrom next file buffers)) (read-from next (es ++ (e ∷ [])) (more es s r e refl refl f) buffers)))
+
+  -- ---- where each command ends
+
+  -- the set that a command's size goes by: the one read, where the command needs one
+  sized-by : (m : Material) (b : ℕ) → b < 9 → (b ≡ 0 → ⊥) → {x : Bool} {o : Option Chosen} → Kept TestedSet (m .set) x o → lacksSet b o ≡ false
+      → commandOf b .size (paramsOf o) ≡ commandOf b .size (paramsIn m)
+  unfolding commandOf commandTable
+  sized-by m b high nonzero (kept s) lacks = refl
+  sized-by m b high nonzero gone lacks =
+      by-test (eqb b 1) (λ e. rw (eqb-true b 1 e))
+      (λ e. absurd (true≢false (rw (needs-set b high (omega (arith, eqb-false b 1 e))) at lacks)))
+
+  step-sized : (m : Material) (a : Available) (s : Session) → KeptAll m a (s .held) → (buffer : List ℕ) → IsSized m (rowEvent s file buffer)
+  step-sized m a s w buffer =
+      step-by s file
+      (λ (x : Step). isEnding (x .number) ≡ false → (x .byte ≡ 0 → ⊥) → length (x .operand) ≡ commandOf (x .byte) .size (paramsIn m))
+      (λ n e f b g z. absurd (true≢false (e .ending ∙ g))) (λ n e f g z. absurd (true≢false (e .ending ∙ g))) (λ f z g y. absurd (y refl))
+      (λ d g z.
+      let at = placeDue s in
+      operand-whole file at (sizeDue file at (s .held .set)) (d .allowed .whole)
+      ∙ sized-by m (byteDue file at) (d .allowed .known) (d .nonzero) (w .set) (d .allowed .needs))
+
+  pub each-sized : (buffers : List (List ℕ)) → EachSized noMaterial (events file buffers)
+  unfolding events
+  each-sized buffers =
+      plays-by file (λ (m : Material) (a : Available) (s : Session) (es : List Event) (t : Session). EachSized m es)
+      (λ m a s w. tt) (λ m a s w g buffer es t rest. (step-sized m a s w buffer, rest)) noMaterial noneAvailable opened kept-opened buffers

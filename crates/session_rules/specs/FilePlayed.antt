@@ -1,5 +1,5 @@
--- Document 01, "The session file": the commands played are the file. What was read of it by commands that go on, and which byte the row has that ends the
--- session.
+-- Document 01, "The session file": the commands played are the file. What was read of it by commands that go on, where each of them ends, and which byte the
+-- row has that ends the session.
 -- Assumes nothing.
 use mathlib.Core.Path.{_≡_}
 use mathlib.Core.Bool.{true, false, cond}
@@ -7,9 +7,11 @@ use mathlib.Core.List.{List, [], _∷_, _++_}
 use Prim.Native.Nat.{ℕ}
 use lib.Dec.{ltb}
 use lib.ListN.{length, getD, take}
+use Rattle.session_rules.specs.CommandTable.{commandOf}
 use Rattle.session_rules.specs.Play.{Session, opened}
-use Rattle.session_rules.specs.Plays.{Event}
+use Rattle.session_rules.specs.Plays.{Event, Material, noMaterial, paramsIn, withCommand}
 use Rattle.session_rules.specs.Ordinals.{isBeforeFirst}
+use Rattle.session_rules.specs.Refusals.{isEnding}
 
 -- hex 50 53 47 31
 abbrev pub tag : List ℕ
@@ -51,9 +53,19 @@ pub record LastRow (file : List ℕ) (es : List Event) : Type 0 where
   pub early : isBeforeFirst opened file ≡ true → EarlyRow file before last
   pub behind : isBeforeFirst opened file ≡ false → EndingRow file before last
 
+-- the operand of a command that goes on has as many bytes as the table of the commands says, in the set read from the commands before it
+abbrev pub IsSized : Material → Event → Type 0
+IsSized m e = isEnding (e .number) ≡ false → (e .byte ≡ 0 → ⊥) → length (e .operand) ≡ commandOf (e .byte) .size (paramsIn m)
+
+abbrev pub EachSized : Material → List Event → Type 0
+EachSized m [] = Unit {0}
+EachSized m (e ∷ es) = IsSized m e × EachSized (withCommand m e) es
+
 -- the commands es played from a session just opened, and the session s after them
 pub record FilePlayed (file : List ℕ) (es : List Event) (s : Session) : Type 0 where
   -- as long as the session goes on, the commands are the file up to the place reached
   pub read : s .ended ≡ false → take (s .place) file ≡ bytesRead es
   pub place : s .ended ≡ false → s .place ≡ length (bytesRead es)
   pub ends : s .ended ≡ true → LastRow file es
+  -- each command ends where the table says
+  pub sized : EachSized noMaterial es

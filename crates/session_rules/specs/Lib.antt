@@ -10,5 +10,6 @@ pub mod After
 pub mod Transcript
 pub mod Ordinals
 pub mod Refusals
-pub mod FilePlayed
 pub mod FirstPassing
+pub mod Verdicts
+pub mod FilePlayed
