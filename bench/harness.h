@@ -10,6 +10,5 @@ void harness_sha512_of_two(const uint8_t *first, size_t first_length, const uint
 void harness_point(const int16_t *f, size_t f_length, const int8_t *c, size_t c_length, const int16_t *y, size_t y_length, int32_t *z, size_t z_length);
 void harness_plays(const uint8_t *files, size_t files_length, const uint32_t *plays, size_t plays_length, uint8_t *memory, size_t memory_length,
                    uint32_t *answers, size_t answers_length);
-uint32_t harness_play_file(const uint8_t *file, size_t file_length);
 
 #endif

@@ -1,5 +1,5 @@
 """Lists of plays with any row buffers and swapped files, through crate harness and through the reference: answers and all memory around the
-row buffers must agree; and each file, played to its end by the library, has ended."""
+row buffers must agree."""
 
 import ctypes
 from collections import Counter
@@ -64,12 +64,6 @@ def by_library(library, files, plays, memory):
     return list(lent[3]), bytes(lent[2])
 
 
-def ends(library, file):
-    """A file played to its end by the library, and once more, says that the session has ended."""
-    library.harness_play_file.restype = ctypes.c_uint32
-    return library.harness_play_file((ctypes.c_uint8 * len(file)).from_buffer_copy(file), ctypes.c_size_t(len(file))) == ENDED
-
-
 def difference(found, wanted):
     """The first play at which they differ, and what each has there."""
     for i, (mine, reference) in enumerate(zip(found[0], wanted[0])):
@@ -95,10 +89,6 @@ def run(seed, shared):
         if found != wanted:
             print(f"lists of plays: DIFFERENCE in list {at}, {difference(found, wanted)}; again: tests/run --seed {seed}")
             return False
-        for file in files if library else []:
-            if not ends(library, file):
-                print(f"lists of plays: DIFFERENCE in list {at}: a file of {len(file)} bytes does not end; again: tests/run --seed {seed}")
-                return False
         kinds.update(map(kind, wanted[0]))
         plays_made += len(plays)
     print(f"lists of plays: {LISTS} lists with {plays_made} plays {'agree with the reference' if library else 'of the reference alone'}: "

@@ -1,16 +1,11 @@
 // Lists of plays of one session, each with a file and a row buffer of its own.
-ghost use mathlib.Core.Path.{_≡_};
-ghost use mathlib.Core.Option.{none};
 ghost use Prim.Native.Nat.{_+_, _*_, _≤_};
 ghost use lib.ListN.{length};
-ghost use Rattle.session.specs.Session.{playNumberOf};
-use parameters::ROW_ROOM;
 use session::PlayAnswer;
 use session::Played;
 use session::Session;
 use session::open;
 use session::play;
-use session::play_file;
 
 // The number, or `most` where it is larger.
 fn at_most(number: u32, most: usize) -> usize
@@ -21,9 +16,7 @@ fn at_most(number: u32, most: usize) -> usize
 }
 
 // The number that a row prints, or 256 for a row buffer at fault and 257 for a session that has ended.
-fn number_of(answer: PlayAnswer) -> u32
-    ensures { λ r. ⌜ (playNumberOf answer ≡ none → r ≡ 257) ⌝ }
-{
+fn number_of(answer: PlayAnswer) -> u32 {
     match answer {
         PlayAnswer::Row(number) => number,
         PlayAnswer::Fault => 256,
@@ -44,18 +37,6 @@ fn play_at(session: Session, files: &[u8], plays: &[u32], at: usize, memory: &mu
         &files[file_start..file_end],
         &mut memory[rows_start..rows_end],
     )
-}
-
-// Plays a file to its end, and once more: 257, since the session has ended.
-#[no_mangle]
-pub extern "C" fn harness_play_file(file: &[u8]) -> u32
-    ensures { λ r. ⌜ r ≡ 257 ⌝ }
-{
-    let mut rows = [0u8; ROW_ROOM];
-    let session = play_file(file);
-    let played = play(session, file, &mut rows);
-    let answer = played.answer;
-    number_of(answer)
 }
 
 // Plays a session just opened, four numbers for each play, and writes the answers as numbers: as many as there are places for.
