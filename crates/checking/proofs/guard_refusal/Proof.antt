@@ -55,7 +55,13 @@ unfolding guardRefusal setRefusals
 returns-3 c =
     let k = c .before .before .before .before .before .before in
     let s = k .before .before .before .before .before .before .args in
-    rw (k .before .before .if1 .left, in-a-set (s .public-key .now) (setRefusals (s .public-key .now) (s .signature .now)) (known k)) cc
+    rw (k .before .before .if1 .left, in-a-set (s .public-key .now) (setRefusals (s .public-key .now) (s .signature .now)) (known k))
+    (c .unless2 .ensures
+    ∙ rw (
+      c .before .before .unless .ensures,
+      c .before .before .before .has-lengths .ensures,
+      c .before .before .before .before .params-of .ensures,
+    ))
 
 pub guard-refusal-spec : {M : Type 1} → statement M
 guard-refusal-spec =

@@ -1,6 +1,6 @@
 -- `store_signature` meets its contract: both lists are stored, or none.
 -- Assumes nothing.
-use mathlib.Core.Path.{_≡_}
+use mathlib.Core.Path.{_≡_, sym, _∙_}
 use borrow.Author.Needs.{needs}
 use Rattle.refusal.proofs.Answering.{wrote-nothing, wrote}
 use Rattle.codec.specs.Codec.{entriesRefusal}
@@ -10,7 +10,8 @@ use Rattle.codec.proofs.store_signature.Tie as tie
 returns : tie.Need-returns
 unfolding entriesRefusal
 returns c = let a = c .before .before .before .before .before .args in
-    let e : entriesRefusal (a .n) (a .entries .now) ≡ c .before .unless .result = cc in
+    let e : entriesRefusal (a .n) (a .entries .now) ≡ c .before .unless .result =
+    sym (c .before .unless .ensures ∙ rw (c .before .before .are-entries-of .ensures)) in
     record { first = wrote-nothing _ (c .if1 .taken) e; second = wrote-nothing _ (c .if1 .taken) e }
 
 returns-2 : tie.Need-returns-2

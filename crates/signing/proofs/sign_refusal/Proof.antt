@@ -18,7 +18,15 @@ unfolding signRefusalIn isKey
 returns-2 c =
     let l = c .before .before .before .before .before .before in
     let e = rw one-add at (l .before .has-sign-lengths .ensures) in
-    rw (sym e ∙ not-false _ (l .if1 .left)) cc
+    rw (sym e ∙ not-false _ (l .if1 .left))
+    (c .unless3 .ensures
+    ∙ rw (
+      c .before .are-exponents .ensures,
+      c .before .before .unless2 .ensures,
+      c .before .before .before .are-key-bytes .ensures,
+      c .before .before .before .before .unless .ensures,
+      c .before .before .before .before .before .in-range16 .ensures,
+    ))
 
 pub sign-refusal-spec : {M : Type 1} → statement M
 sign-refusal-spec =

@@ -18,7 +18,9 @@ unfolding publicKeyRefusalIn isKey
 returns-2 c =
     let l = c .before .before .before .before in
     let e = rw one-add at (l .before .has-key-lengths .ensures) in
-    rw (sym e ∙ not-false _ (l .if1 .left)) cc
+    rw (sym e ∙ not-false _ (l .if1 .left))
+    (c .unless2 .ensures
+    ∙ rw (c .before .are-exponents .ensures, c .before .before .unless .ensures, c .before .before .before .are-key-bytes .ensures))
 
 pub key-refusal-spec : {M : Type 1} → statement M
 key-refusal-spec =
