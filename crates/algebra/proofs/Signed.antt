@@ -4,17 +4,16 @@
 use mathlib.Core.Path.{_≡_, refl, ap, _∙_}
 use mathlib.Core.Bool.{true, false}
 use mathlib.Core.List.{List}
-use Prim.Native.Nat.{ℕ, suc, _+_, _^_, _<_}
+use Prim.Native.Nat.{ℕ, suc, _^_, _<_}
 use native.Mathlib.Omega.{arith}
 use lib.Dec.{T, leb}
 use lib.IntN.{ℤ, pos, negsuc, _-ℤ_, natAbs}
-use lib.ListN.{length, getD, take, set}
+use lib.ListN.{getD}
 use lib.Signed.{mag, ltZ}
 use mir.Syntax.{Width}
 use mir.Val.{SFits, toZ, ofZ, hbits}
 use mir.Facts.{toZ-ofZ, sfits-widen}
 use borrow.Author.Tests.{ltb-true, le-ltb}
-use Rattle.algebra.proofs.List.{copy-more}
 
 -- a number fits a signed width where its absolute value does
 pub fits-signed : (w : Width) (z : ℤ) → natAbs z < 2 ^ hbits w → SFits w z
@@ -56,11 +55,6 @@ module _ (w v : Width) (wider : T (leb (hbits w) (hbits v))) (a : List ℤ) (i :
 
   pub read-wider : toZ v (ofZ v (toZ w (ofZ w (getD a i (pos 0))))) ≡ getD a i (pos 0)
   read-wider = widened (record { sfits = fits }) v wider
-
-  -- one place more
-  pub wider-more : (out : List ℤ) → i < length out → i < length a → take i out ≡ take i a
-      → take (i + 1) (set out i (toZ v (ofZ v (toZ w (ofZ w (getD a i (pos 0))))))) ≡ take (i + 1) a
-  wider-more out h k e = copy-more out a i _ (pos 0) h k e read-wider
 
 -- element i of a list, read at its own width
 pub read-same : (w : Width) (a : List ℤ) (i : ℕ) → mag (getD a i (pos 0)) < 2 ^ hbits w → toZ w (ofZ w (getD a i (pos 0))) ≡ getD a i (pos 0)

@@ -16,7 +16,7 @@ use Rattle.refusal.specs.declared.Answer.the-variants.{Done, Refused}
 use Rattle.refusal.specs.Numbers.{wrongLength, wrongSet}
 use Rattle.refusal.specs.Answer.{answerOf, unlessRefused, BufferOutcome, setByte, setIn, inSet, inSetOf, stated, answerStates, numberOf}
 use Rattle.refusal.proofs.Apart.{done-not-refused}
-use Rattle.refusal.proofs.Refusal.{step, equal-iff}
+use Rattle.refusal.proofs.Refusal.{step}
 
 -- to C, an answer is the number that it was made of
 pub numbered : (n : ℕ) → numberOf (answerOf n) ≡ n
@@ -50,10 +50,6 @@ module _ {A : Type 0} {n : ℕ} {written before : List A} where
 
   pub wrote : {after : List A} → n ≡ 0 → after ≡ written → BufferOutcome n Done written before after
   wrote e w = rw e (record { answers = refl; buffer = w })
-
--- a call that is not refused has passed each test of equal numbers in the chain
-pub passed-equal : (a b n x : ℕ) → cond (not (eqb a b)) (suc n) x ≡ 0 → (a ≡ b) × (x ≡ 0)
-passed-equal a b n x e = let h = step (eqb a b) n Iff·rfl .0 e in (equal-iff .0 (h .0), h .1)
 
 -- numbers that a guard has found equal
 pub both-equal : (a b c d : ℕ) → (eqb a b && eqb c d) ≡ true → (a ≡ b) × (c ≡ d)
