@@ -4,8 +4,8 @@
    and a refused call writes nothing.
 
    A slice is a pointer and its length in elements. The pointer is not null, also where the length is 0, is aligned for its elements, and all of
-   the slice may be read, or written for a result; a result buffer overlaps no other slice. Nothing checks these, nor that there is enough stack: a call
-   takes up to 67 KiB of it (bench/stack measures each function). The archive is for x86-64.
+   the slice may be read, or written for a result; a result buffer overlaps no other slice. Nothing checks these, nor that there is enough stack:
+   accepted calls were measured to take up to 67 KiB of it (bench/stack). The archive is for x86-64.
 
    Encodings, numbers of several bytes with the high byte first:
      secret key   the set, then N bytes: 00, 01, or FF for -1
