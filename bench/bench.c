@@ -6,7 +6,8 @@
 static struct result {
     uint8_t digest[64], signature[2379], rows[ROW_BUFFER];
     int8_t challenge[1153];
-    uint32_t values[600], answer;
+    int32_t values[600];
+    uint32_t answer;
     int32_t z[1153];
 } plain, ours;
 
@@ -34,7 +35,13 @@ static void plain_long(void) { plain_sha512(message, 65535, plain.digest); }
 static void ours_long(void) { harness_sha512(message, 65535, ours.digest); }
 static void plain_short(void) { plain_sha512(message, 664, plain.digest); }
 static void ours_short(void) { harness_sha512_of_two(message, 600, message + 600, 64, ours.digest); }
-static void plain_evaluates(void) { plain_evaluate(in_use(), powers, masks[0], points, in_use()->t, plain.values); }
+static void plain_evaluates(void)
+{
+    uint32_t residues[600];
+    plain_evaluate(in_use(), powers, masks[0], points, in_use()->t, residues);
+    for (size_t i = 0; i < in_use()->t; i++)
+        plain.values[i] = plain_centred(in_use(), residues[i]);
+}
 static void ours_evaluates(void) { passign_evaluate(set, masks[0], in_use()->n, points, in_use()->t, ours.values, in_use()->t); }
 static void plain_draws(void) { plain_draw(in_use(), pool, plain.challenge); }
 static void ours_draws(void) { passign_draw(set, pool, sizeof pool, ours.challenge, in_use()->n); }

@@ -100,6 +100,8 @@ void plain_evaluate(const struct plain_set *s, const uint32_t *powers, const int
     }
 }
 
+int32_t plain_centred(const struct plain_set *s, uint32_t value) { return 2 * value <= s->q ? (int32_t)value : (int32_t)value - (int32_t)s->q; }
+
 void plain_point(const struct plain_set *s, const int16_t *f, const int8_t *c, const int16_t *y, int32_t *z)
 {
     for (size_t i = 0; i < s->n; i++)

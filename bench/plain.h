@@ -10,7 +10,9 @@ extern const struct plain_set plain_sets[5];
 void plain_sha512(const uint8_t *message, size_t size, uint8_t digest[64]);
 /* the n powers of g modulo q */
 void plain_powers(const struct plain_set *s, uint32_t *powers);
+/* the evaluations in 0..q-1, and a number of 0..q-1 in signed form */
 void plain_evaluate(const struct plain_set *s, const uint32_t *powers, const int16_t *coefficients, const uint16_t *points, size_t count, uint32_t *out);
+int32_t plain_centred(const struct plain_set *s, uint32_t value);
 /* z = f * c + y, the product cyclic and c sparse */
 void plain_point(const struct plain_set *s, const int16_t *f, const int8_t *c, const int16_t *y, int32_t *z);
 /* the challenge of a commitment and a message: 1, or 0 where the pool is spent */

@@ -76,8 +76,11 @@ static uint32_t load_key(struct held *h, const uint8_t *operand, uint8_t **at)
     plain_evaluate(h->set, h->powers, f, h->points, h->set->t, values);
     for (size_t i = 0; i < h->set->t; i++) {
         *out++ = values[i] >> 16, *out++ = values[i] >> 8, *out++ = values[i];
+        int32_t printed = plain_centred(h->set, values[i]);
         *(*at)++ = ' ';
-        *at = decimal(*at, values[i]);
+        if (printed < 0)
+            *(*at)++ = '-';
+        *at = decimal(*at, printed < 0 ? (uint32_t)-printed : (uint32_t)printed);
     }
     h->key_held = h->evaluations_held = 1;
     return 0;

@@ -12,6 +12,7 @@ static uint8_t *stack, rows[ROW_BUFFER], pool[512], signature[2379], bytes_out[3
 static ucontext_t here, there;
 static void (*function)(void);
 static uint32_t answer, values[600];
+static int32_t evaluations[600];
 static uint16_t exponents[600], entries[36];
 static int16_t z[1153];
 static int8_t ternary[1153];
@@ -61,7 +62,7 @@ static void sign(void)
 }
 static void check(void) { answer = passign_check(public_key, 1 + 5 * in_use()->t, message, length, signature, signature_size()); }
 static void make_public_key(void) { answer = passign_public_key(secret_key, 1 + in_use()->n, points, in_use()->t, bytes_out, 1 + 5 * in_use()->t); }
-static void evaluate(void) { answer = passign_evaluate(set, masks[0], in_use()->n, points, in_use()->t, values, in_use()->t); }
+static void evaluate(void) { answer = passign_evaluate(set, masks[0], in_use()->n, points, in_use()->t, evaluations, in_use()->t); }
 static void draw(void) { answer = passign_draw(set, pool, sizeof pool, ternary, in_use()->n); }
 static void read_secret_key(void) { answer = passign_read_secret_key(secret_key, 1 + in_use()->n, ternary, in_use()->n); }
 static void write_secret_key(void) { answer = passign_write_secret_key(set, ternary, in_use()->n, bytes_out, 1 + in_use()->n); }

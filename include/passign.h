@@ -5,11 +5,11 @@
 
    A slice is a pointer and its length in elements. The pointer is not null, also where the length is 0, is aligned for its elements, and all of
    the slice may be read, or written for a result; a result buffer overlaps no other slice. Nothing checks these, nor that there is enough stack:
-   accepted calls were measured to take up to 67 KiB of it (bench/stack). The archive is for x86-64.
+   accepted calls were measured to take up to 65 KiB of it (bench/stack). The archive is for x86-64.
 
    Encodings, numbers of several bytes with the high byte first:
      secret key   the set, then N bytes: 00, 01, or FF for -1
-     public key   the set, t exponents of two bytes, strictly increasing in 1..N-1, t evaluations of three bytes
+     public key   the set, t exponents of two bytes, strictly increasing in 1..N-1, t evaluations of three bytes, in 0..q-1
      signature    the set, b challenge entries of two bytes, by strictly increasing index (in the low 15 bits; top bit 1 for -1), N coefficients of z
                   in two bytes, two's complement
 
@@ -73,9 +73,10 @@ uint32_t passign_sign(const uint8_t *secret_key, size_t secret_key_length, const
 uint32_t passign_public_key(const uint8_t *secret_key, size_t secret_key_length, const uint16_t *points, size_t points_length,
                             uint8_t *public_key, size_t public_key_length);
 
-/* Evaluates N coefficients at t points, each result in 0..q-1: 0, else the refusal number (1, 2, 4). */
+/* Evaluates N coefficients at t points, each result in signed form, from -(q-1)/2 to (q-1)/2: 0, else the refusal number (1, 2, 4). Where evaluations
+   are taken they are in 0..q-1: add q to a negative one. */
 uint32_t passign_evaluate(uint8_t set, const int16_t *coefficients, size_t coefficients_length, const uint16_t *points, size_t points_length,
-                          uint32_t *evaluations, size_t evaluations_length);
+                          int32_t *evaluations, size_t evaluations_length);
 
 /* Draws the challenge of a pool of 64 to 512 bytes, a multiple of 64, as N coefficients: 0, else the refusal number (1, 2, 11). */
 uint32_t passign_draw(uint8_t set, const uint8_t *pool, size_t pool_length, int8_t *challenge, size_t challenge_length);
@@ -87,11 +88,11 @@ uint32_t passign_read_secret_key(const uint8_t *secret_key, size_t secret_key_le
 uint32_t passign_write_secret_key(uint8_t set, const int8_t *coefficients, size_t coefficients_length,
                                   uint8_t *secret_key, size_t secret_key_length);
 
-/* Reads a public key into t exponents and t evaluations: 0, else the refusal number (1, 2, 4, 7). */
+/* Reads a public key into t exponents and t evaluations in 0..q-1: 0, else the refusal number (1, 2, 4, 7). */
 uint32_t passign_read_public_key(const uint8_t *public_key, size_t public_key_length, uint16_t *points, size_t points_length,
                                  uint32_t *evaluations, size_t evaluations_length);
 
-/* Writes a public key of t exponents and t evaluations: 0, else the refusal number (1, 2, 4, 7). */
+/* Writes a public key of t exponents and t evaluations in 0..q-1: 0, else the refusal number (1, 2, 4, 7). */
 uint32_t passign_write_public_key(uint8_t set, const uint16_t *points, size_t points_length,
                                   const uint32_t *evaluations, size_t evaluations_length, uint8_t *public_key, size_t public_key_length);
 

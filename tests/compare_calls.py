@@ -3,7 +3,7 @@
 from collections import Counter, defaultdict
 
 import library_calls
-from c_library import GUARD, as_bytes
+from c_library import GUARD, as_bytes, from_bytes
 from reference import library
 from reference.parameters import SETS
 
@@ -57,9 +57,16 @@ def report(call, seed, text):
     print(f"  seed {seed}; replay: tests/run --seed {seed} --call '{call.name}'")
 
 
-def missing(counts):
-    """What no call gave: each answer of each entry in each set, and each passed-over number in all."""
-    gaps = []
+def ends_in(s, after):
+    """Which ends of the signed form, (q-1)/2 and -(q-1)/2, an accepted `evaluate` wrote."""
+    written = from_bytes("evaluate", "out", after["out"][len(GUARD):-len(GUARD)])
+    return {value for value in written if 2 * abs(value) == s.q - 1}
+
+
+def missing(counts, ends):
+    """What no call gave: each answer of each entry in each set, both ends of an evaluation in each, and each passed-over number in all."""
+    gaps = [f"evaluate in set {s.number} never writes {end}" for s in SETS
+            for end in sorted({(s.q - 1) // 2, -(s.q - 1) // 2} - ends[s.number])]
     for entry in REFUSALS:
         for s in SETS:
             for answer in sorted((REFUSALS[entry] | ACCEPTED.get(entry, {0})) - set(counts[entry, s.number])):
@@ -80,16 +87,19 @@ def print_counts(counts):
 
 def run(seed, kit_call, only=None):
     """True when all agree. Without kit_call the reference runs alone, for the coverage."""
-    counts = defaultdict(Counter)
+    counts, ends = defaultdict(Counter), defaultdict(set)
     for name in [only] if only else library_calls.names():
         call = library_calls.make(seed, name)
         answer, after = expected(call)
-        counts[call.entry, int(name.split("/")[1])][answer] += 1
+        number = int(name.split("/")[1])
+        counts[call.entry, number][answer] += 1
+        if call.entry == "evaluate" and answer == 0:
+            ends[number] |= ends_in(SETS[number], after)
         text = difference(call, kit_call, answer, after) if kit_call else None
         if text:
             report(call, seed, text)
             return False
-    gaps = [] if only else missing(counts)
+    gaps = [] if only else missing(counts, ends)
     for gap in gaps:
         print(f"library: NOT COVERED: {gap}")
     print_counts(counts)

@@ -4,6 +4,7 @@ import subprocess
 from collections import Counter
 
 import sessions
+from reference.parameters import SETS
 from reference.session import play_to_the_end
 
 REFUSED_ROWS = {"01 2", "02 4", "03 10", "03 5", "04 8", "04 6", "06 10", "06 9", "07 10", "07 12",
@@ -12,6 +13,7 @@ REFUSED_ROWS |= {f"{command:02X} 3" for command in range(2, 9)}
 REFUSED_ROWS |= {f"{command:02X} 13" for command in (1, 2, 3, 4, 5, 7, 8)}
 ACCEPTED_ROWS = {"00 0", "01 0", "02 0", "03 0 evaluations", "04 0", "05 0", "06 0 first mask",
                  "06 0 passed over", "07 0 yes", "07 0 no", "08 0"}
+ENDS = {"03 0 with (q-1)/2": 1, "03 0 with -(q-1)/2": -1}
 
 
 def form(row):
@@ -28,11 +30,17 @@ def form(row):
     return f"{command} {number} {kinds[command]}" if fields else f"{command} {number}"
 
 
+def ends_in(row, s):
+    """Which ends of the signed form a row of 03 prints."""
+    _, command, _, *fields = row.split(" ")
+    return {end for end, sign in ENDS.items() if command == "03" and str(sign * (s.q - 1) // 2) in fields}
+
+
 def missing(forms, by_set):
     wanted = REFUSED_ROWS | ACCEPTED_ROWS | {"14"}
     gaps = [f"no row of form '{text}'" for text in sorted(wanted - set(forms))]
     for number, seen in by_set.items():
-        gaps += [f"no row of form '{text}' in set {number}" for text in sorted(ACCEPTED_ROWS - seen)]
+        gaps += [f"no row of form '{text}' in set {number}" for text in sorted((ACCEPTED_ROWS | set(ENDS)) - seen)]
     return gaps
 
 
@@ -55,9 +63,10 @@ def run(seed, program, only=None):
     for name in [only] if only else sessions.names():
         file = sessions.make(seed, name)
         wanted = play_to_the_end(file)
-        seen = [form(row) for row in wanted.decode().splitlines()]
+        rows, number = wanted.decode().splitlines(), int(name.split("/")[0])
+        seen = [form(row) for row in rows]
         forms.update(seen)
-        by_set.setdefault(name.split("/")[0], set()).update(seen)
+        by_set.setdefault(number, set()).update(seen, *(ends_in(row, SETS[number]) for row in rows))
         played += 1
         if program:
             done = subprocess.run([program], input=file, stdout=subprocess.PIPE)

@@ -34,7 +34,7 @@ OFTEN = {"good": 4, "after failing": 2, "two damages": 4, "three damages": 2}
 def evaluate(rng, s):
     edge = rng.choice((1, 6, s.k, 32767))
     coefficients = material.within(rng, s, edge)
-    out = material.unsigned(rng, s.t, 32)
+    out = material.signed(rng, s.t, 32)
     return {"set": s.number, "coefficients": coefficients, "points": material.points(rng, s), "out": out}
 
 
@@ -83,6 +83,16 @@ def evaluate_all_equal(rng, s):
     arguments = evaluate(rng, s)
     arguments["coefficients"] = [rng.choice((-32768, 32767, 0, -1))] * s.N
     return arguments
+
+
+def evaluate_at_end(sign):
+    """At one of the points the evaluation is (q-1)/2, or -(q-1)/2."""
+    def make(rng, s):
+        arguments = evaluate(rng, s)
+        j = rng.choice(arguments["points"])
+        arguments["coefficients"] = material.coefficients_evaluating_to(rng, s, j, sign * (s.q - 1) // 2)
+        return arguments
+    return make
 
 
 def pool_of_values(rng, length, values):
@@ -181,7 +191,7 @@ def check_any_bytes(rng, s):
 
 
 SPECIAL = {
-    "evaluate": {"all equal": evaluate_all_equal},
+    "evaluate": {"all equal": evaluate_all_equal, "upper end": evaluate_at_end(1), "lower end": evaluate_at_end(-1)},
     "draw": {"zeros": draw_zeros, "wrong pool": draw_wrong_pool, "last value": draw_at_the_last_value,
              "spent at last": draw_spent_at_the_last_value, "skip bound": draw_about_the_skip_bound},
     "sign": {"after failing": sign_after_failing, "none passes": sign_none_passes,

@@ -2,7 +2,8 @@
 
 from reference import encodings, signing
 from reference.challenge import draw, pool_of
-from reference.polynomials import evaluations
+from reference.parameters import powers
+from reference.polynomials import centred, evaluation, evaluation_residues
 
 MESSAGE_EDGES = (0, 1, 111, 112)  # 111 is the longest message of one SHA-512 block
 
@@ -42,6 +43,30 @@ def key(rng, s):
     if kind < 0.25:
         return [rng.choice((-1, 1))] * s.N
     return [rng.randint(-1, 1) for _ in range(s.N)]
+
+
+def key_evaluating_to(rng, s, j, target):
+    """A key with this evaluation at exponent j: any key with two coefficients put right."""
+    while True:
+        f = [rng.randint(-1, 1) for _ in range(s.N)]
+        missing = target - evaluation(s, f, j)
+        changes = {(value - f[i]) * powers(s)[i * j % s.N] % s.q: (i, value) for i in range(s.N) for value in (-1, 0, 1)}
+        for change, (i, value) in changes.items():
+            other, other_value = changes.get((missing - change) % s.q, (i, value))
+            if other != i:
+                f[i], f[other] = value, other_value
+                return f
+
+
+def coefficients_evaluating_to(rng, s, j, target):
+    """Coefficients of 16 bits with this evaluation at exponent j: any, with the first two put right."""
+    a = [0, 0] + within(rng, s, 32767)[2:]
+    missing = target - evaluation(s, a, j)
+    while True:
+        a[1] = rng.randint(-32768, 32767)
+        a[0] = centred(s, missing - a[1] * powers(s)[j])
+        if -32768 <= a[0] <= 32767:
+            return a
 
 
 def passing_mask(rng, s):
@@ -93,7 +118,7 @@ def message(rng):
 
 
 def public_key(s, f, at):
-    return encodings.write_public_key(s, at, evaluations(s, f, at))
+    return encodings.write_public_key(s, at, evaluation_residues(s, f, at))
 
 
 def public_evaluations(rng, s):
@@ -110,7 +135,7 @@ def entries(rng, s):
 
 def unranged_signature(s, f, at, y, text):
     """The challenge and point of a mask, whether z is in range or not: the challenge always fits."""
-    c = draw(s, pool_of(evaluations(s, y, at), text))
+    c = draw(s, pool_of(evaluation_residues(s, y, at), text))
     return c, signing.point(s, f, c, y)
 
 

@@ -140,6 +140,21 @@ def signing(rng, s):
     return bytes(w.file)
 
 
+def key_at_end(sign):
+    """A key with the evaluation (q-1)/2, or -(q-1)/2, at one of the points; its 03 prints it."""
+    def make(rng, s):
+        w = Writer(rng, s)
+        add(w, 0x01)
+        add(w, 0x02)
+        f = material.key_evaluating_to(rng, s, rng.choice(w.session.points), sign * (s.q - 1) // 2)
+        w.add(0x03, encodings.write_key(f))
+        for command in (0x05, 0x04, 0x06, 0x07):
+            add(w, command)
+        w.add(0x00)
+        return bytes(w.file)
+    return make
+
+
 def passed_over(rng, s):
     """Masks that fail before one that passes; then 06 until 9; then 06 with none held."""
     w = begun(rng, s)
@@ -304,11 +319,12 @@ def longest(rng, s):
 KINDS = {"signing": signing, "passed over": passed_over, "many masks": many_masks, "walk": walk,
          "repeated": repeated, "forgets": forgets, "two mistakes": two_mistakes, "cut": cut,
          "cut by one": cut_by_one, "flipped": flipped, "unknown": unknown, "wrong tag": wrong_tag,
-         "after end": after_end, "any bytes": any_bytes, "longest": longest}
+         "after end": after_end, "any bytes": any_bytes, "longest": longest,
+         "upper end": key_at_end(1), "lower end": key_at_end(-1)}
 KINDS |= {f"{command:02X} before 01": before_set(command) for command in range(2, 9)}
 KINDS |= {f"cut inside {command:02X}": cut_inside(command) for command in (1, 2, 3, 4, 5, 7, 8)}
 # One for so many repeats; the kinds for one command are many.
-SELDOM = {"longest": 10, "wrong tag": 3,
+SELDOM = {"longest": 10, "wrong tag": 3, "upper end": 4, "lower end": 4,
           **{kind: 10 for kind in KINDS if "before 01" in kind or "cut inside" in kind}}
 OFTEN = {"signing": 2, "walk": 3, "repeated": 2, "flipped": 2}
 

@@ -10,7 +10,7 @@ from functools import wraps
 from . import encodings, signing
 from .challenge import draw as draw_challenge, is_pool_length
 from .parameters import SETS
-from .polynomials import are_evaluations, are_points, evaluations, is_key, is_mask
+from .polynomials import are_evaluations, are_points, evaluation_residues, evaluations, is_key, is_mask
 from .refusals import (CHALLENGE_INDEX, EVALUATION, EXPONENTS, KEY_VALUE, LENGTH, MASK_COEFFICIENT,
                        NO_MASK_PASSES, POOL_SPENT, Refused, SET, refuse_unless)
 
@@ -67,7 +67,7 @@ def public_key(secret_key, points, out):
     refuse_unless(are_points(s, points), EXPONENTS)
     f = encodings.read_key(secret_key[1:])
     refuse_unless(is_key(f), KEY_VALUE)
-    out[:] = encodings.write_public_key(s, points, evaluations(s, f, points))
+    out[:] = encodings.write_public_key(s, points, evaluation_residues(s, f, points))
     return DONE
 
 

@@ -34,14 +34,25 @@ def are_evaluations(s, values):
     return all(value < s.q for value in values)
 
 
+def centred(s, value):
+    """The integer from -(q-1)/2 to (q-1)/2 that differs from the value by a multiple of q."""
+    half = (s.q - 1) // 2
+    return (value + half) % s.q - half
+
+
 def evaluation(s, a, j):
-    """The sum of coefficient i times g to the (i × j), reduced to 0..q-1. The definition, slowly."""
+    """The sum of coefficient i times g to the (i × j), in signed form. The definition, slowly."""
     table = powers(s)
-    return sum(value * table[i * j % s.N] for i, value in enumerate(a)) % s.q
+    return centred(s, sum(value * table[i * j % s.N] for i, value in enumerate(a)))
 
 
 def evaluations(s, a, points):
-    """The evaluation at each of the points, in their order.
+    """The evaluation at each of the points, in their order."""
+    return [centred(s, value) for value in evaluation_residues(s, a, points)]
+
+
+def evaluation_residues(s, a, points):
+    """The same in 0..q-1: the form in encodings, in the hash and wherever evaluations are taken.
 
     Quick: one long number has a field of 64 bits for each exponent, so that one multiplication
     serves all exponents. test_document.py holds it to `evaluation`.

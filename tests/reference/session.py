@@ -4,7 +4,7 @@ from typing import NamedTuple
 
 from . import encodings, signing
 from .parameters import SETS
-from .polynomials import are_evaluations, are_points, evaluations, is_key, is_mask
+from .polynomials import are_evaluations, are_points, evaluation_residues, evaluations, is_key, is_mask
 from .refusals import (BYTES_AFTER_END, CHALLENGE_INDEX, EIGHT_MASKS_HELD, END_THE_SESSION, EVALUATION,
                        EXPONENTS, FILE_ENDS, KEY_VALUE, LENGTH, MASK_COEFFICIENT, NOT_HELD,
                        NO_MASK_PASSES, NO_SET_YET, Refused, SET, TAG, UNKNOWN_COMMAND, refuse_unless)
@@ -125,8 +125,8 @@ def hold_key(session, operand):
     refuse_unless(session.points is not None, NOT_HELD)
     key = encodings.read_key(operand)
     refuse_unless(is_key(key), KEY_VALUE)
-    public = evaluations(session.set, key, session.points)
-    return session._replace(key=key, evaluations=public), public
+    public = evaluation_residues(session.set, key, session.points)
+    return session._replace(key=key, evaluations=public), evaluations(session.set, key, session.points)
 
 
 def hold_mask(session, operand):

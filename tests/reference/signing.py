@@ -3,7 +3,7 @@
 from typing import NamedTuple
 
 from .challenge import draw, pool_of
-from .polynomials import evaluations, product
+from .polynomials import evaluation_residues, product
 
 
 class Signed(NamedTuple):
@@ -23,7 +23,7 @@ def in_range(s, z):
 
 def try_mask(s, f, points, y, message):
     """The challenge and the point of a mask that passes, else None."""
-    c = draw(s, pool_of(evaluations(s, y, points), message))
+    c = draw(s, pool_of(evaluation_residues(s, y, points), message))
     if c is None:
         return None
     z = point(s, f, c, y)
@@ -41,6 +41,6 @@ def sign(s, f, points, masks, message):
 
 def check(s, points, public_evaluations, message, c, z):
     """Yes when z is in range and the drawn challenge exists and equals the given one."""
-    pairs = zip(evaluations(s, z, points), public_evaluations, evaluations(s, c, points))
+    pairs = zip(evaluation_residues(s, z, points), public_evaluations, evaluation_residues(s, c, points))
     commitment = [(of_z - public * of_c) % s.q for of_z, public, of_c in pairs]
     return in_range(s, z) and draw(s, pool_of(commitment, message)) == c

@@ -10,7 +10,7 @@ sys.path.insert(0, str(Path(__file__).resolve().parent.parent))
 from reference import encodings, library, session  # noqa: E402
 from reference.challenge import draw, pool_of, skip_bound  # noqa: E402
 from reference.parameters import SETS, is_sound  # noqa: E402
-from reference.polynomials import evaluation, evaluations, product  # noqa: E402
+from reference.polynomials import centred, evaluation, evaluation_residues, evaluations, product  # noqa: E402
 from reference.signing import in_range, point, sign  # noqa: E402
 
 HAND = SETS[0]
@@ -38,9 +38,18 @@ def test_drawn_pools():
 
 
 def test_evaluations():
-    assert evaluations(HAND, KEY, POINTS) == [7, 30]
+    assert evaluations(HAND, KEY, POINTS) == [7, -1]
+    assert evaluation_residues(HAND, KEY, POINTS) == [7, 30]
     for key in ([0, -1, 0, -1, 0], [1, 0, 1, 0, 1]):
-        assert evaluations(HAND, key, POINTS) == [21, 25]
+        assert evaluations(HAND, key, POINTS) == [-10, -6]
+        assert evaluation_residues(HAND, key, POINTS) == [21, 25]
+
+
+def test_the_signed_form_is_exact_at_both_ends():
+    for s in SETS:
+        half = (s.q - 1) // 2
+        assert [centred(s, value) for value in (0, half, half + 1, s.q - 1)] == [0, half, -half, -1]
+        assert [centred(s, value) for value in (-half - 1, -half, -1, -s.q)] == [half, -half, -1, 0]
 
 
 def test_quick_evaluations_are_the_definition():
@@ -50,6 +59,7 @@ def test_quick_evaluations_are_the_definition():
             a = [rng.randint(low, high) for _ in range(s.N)]
             points = [1, s.N - 1] + rng.sample(range(1, s.N), 3)
             assert evaluations(s, a, points) == [evaluation(s, a, j) for j in points]
+            assert evaluation_residues(s, a, points) == [evaluation(s, a, j) % s.q for j in points]
 
 
 def test_products_and_masks():
@@ -65,7 +75,7 @@ def test_two_keys_one_point():
     pairs = (([0, -1, 0, -1, 0], [5, 0, -4, 0, -2]), ([1, 0, 1, 0, 1], [3, -2, -6, -2, -4]))
     for key, mask in pairs:
         assert point(HAND, key, c, mask) == [4, -1, -4, -1, -3]
-        assert evaluations(HAND, mask, POINTS) == [19, 18]
+        assert evaluations(HAND, mask, POINTS) == [-12, -13]
 
 
 def test_encoded_signature():
@@ -105,14 +115,14 @@ def test_signed_is_checked_in_every_set():
         mask = [rng.randint(-small, small) for _ in range(s.N)]
         signed = sign(s, key, points, [mask], b"a message")
         signature = encodings.write_signature(s, signed.challenge, signed.z)
-        public = encodings.write_public_key(s, points, evaluations(s, key, points))
+        public = encodings.write_public_key(s, points, evaluation_residues(s, key, points))
         assert library.check(public, b"a message", signature) == 256
         assert library.check(public, b"A message", signature) == 0
 
 
 TRANSCRIPT_FILE = bytes.fromhex(
     "50534731 0100 0200010002 0301FF000100 0400030004FFFA00020000 0400070000000000000000 06 00")
-TRANSCRIPT = b"1 01 0\n2 02 0\n3 03 0 7 30\n4 04 0\n5 04 6\n6 06 10\n7 00 0\n"
+TRANSCRIPT = b"1 01 0\n2 02 0\n3 03 0 7 -1\n4 04 0\n5 04 6\n6 06 10\n7 00 0\n"
 
 
 def test_session_transcript():

@@ -4,6 +4,7 @@ pub mod Ring
 pub mod Absolute
 pub mod Remainder
 pub mod Congruence
+pub mod Centred
 pub mod Sum
 pub mod List
 pub mod Filling

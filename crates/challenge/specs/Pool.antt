@@ -4,7 +4,7 @@ use mathlib.Core.List.{List, [], _∷_, _++_, map, flatten}
 use Prim.Native.Nat.{ℕ, zero, suc, _%_}
 use Rattle.sha512.specs.Digest.{SHA-512}
 
--- the commitment bytes: each evaluation's remainder by 256, in order
+-- the commitment bytes: the remainder by 256 of each evaluation, in 0..q-1, in order
 abbrev pub commitmentBytes : List ℕ → List ℕ
 commitmentBytes w = map (λ (e : ℕ). e % 256) w
 

@@ -20,7 +20,7 @@ pub struct Drawn {
     pub challenge: [i8; MAX_N],
 }
 
-// An evaluation's remainder by 256.
+// The remainder by 256 of an evaluation in 0..q-1.
 fn low_byte(e: u32) -> u8
     ensures { λ r. ⌜ r ≡ e % 256 ⌝ }
 {

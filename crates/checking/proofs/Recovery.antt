@@ -11,8 +11,8 @@ use Rattle.algebra.specs.Integer.{residue}
 use Rattle.algebra.proofs.Congruence.{cong-refl, cong-sym, cong-trans, cong-add, cong-neg, cong-residue, residue-eq}
 use Rattle.algebra.proofs.Ring.{ring, cancel-right}
 use Rattle.parameters.specs.declared.Params.{Params}
-use Rattle.polynomial.specs.Evaluation.{evaluations}
-use Rattle.polynomial.proofs.EvaluationLaws.{length-evaluations, evaluations-below}
+use Rattle.polynomial.specs.Evaluation.{evaluationResidues}
+use Rattle.polynomial.proofs.EvaluationLaws.{length-evaluation-residues, evaluation-residues-below}
 use Rattle.scheme.specs.Scheme.{differences, recovered}
 use Rattle.checking.specs.Asks.{signatureWith, Checkable, Recoverable}
 
@@ -46,29 +46,29 @@ difference-at q (z ∷ zs) (v ∷ vs) (c ∷ cs) (suc i) h k l = difference-at q
 
 -- the arrays of the code have what they are named for in front
 module _ {p : Params} {powers exponents vs : List ℕ} {c z : List ℤ} (asked : Checkable p powers exponents vs c z) where
-  recoverable : Recoverable (p .q) vs (evaluations p c exponents) (evaluations p z exponents)
+  recoverable : Recoverable (p .q) vs (evaluationResidues p c exponents) (evaluationResidues p z exponents)
   recoverable =
       let fitting = asked .usable .fitting in
-      let of-challenge = length-evaluations p c exponents in
-      let of-z = length-evaluations p z exponents in
+      let of-challenge = length-evaluation-residues p c exponents in
+      let of-z = length-evaluation-residues p z exponents in
       record {
         modulus = fitting .modulus;
         size = omega (arith, fitting .size, fitting .exponents, asked .exponents-size);
         evaluations-size = asked .evaluations-size ∙ sym (of-z ∙ asked .exponents-size);
         challenge-size = of-challenge ∙ sym of-z;
         evaluations-below = asked .evaluations-below;
-        challenge-below = evaluations-below (asked .usable .sound) c exponents;
-        z-below = evaluations-below (asked .usable .sound) z exponents;
+        challenge-below = evaluation-residues-below (asked .usable .sound) c exponents;
+        z-below = evaluation-residues-below (asked .usable .sound) z exponents;
       }
 
   module _ (wide : List ℤ) (front : take (length c) wide ≡ c) where
     pub wide-is : take (p .n) wide ≡ c
     wide-is = ap (λ (n : ℕ). take n wide) (sym (asked .challenge-size)) ∙ front
 
-    module _ (cs zs : List ℕ) (of-challenge : take (p .t) cs ≡ evaluations p (take (p .n) wide) exponents)
-        (of-z : take (p .t) zs ≡ evaluations p z exponents) where
-      challenge-is : take (p .t) cs ≡ evaluations p c exponents
-      challenge-is = of-challenge ∙ ap (λ (f : List ℤ). evaluations p f exponents) wide-is
+    module _ (cs zs : List ℕ) (of-challenge : take (p .t) cs ≡ evaluationResidues p (take (p .n) wide) exponents)
+        (of-z : take (p .t) zs ≡ evaluationResidues p z exponents) where
+      challenge-is : take (p .t) cs ≡ evaluationResidues p c exponents
+      challenge-is = of-challenge ∙ ap (λ (f : List ℤ). evaluationResidues p f exponents) wide-is
 
       pub front-recoverable : Recoverable (p .q) vs (take (p .t) cs) (take (p .t) zs)
       front-recoverable = rw (challenge-is, of-z) recoverable
@@ -76,5 +76,5 @@ module _ {p : Params} {powers exponents vs : List ℕ} {c z : List ℤ} (asked :
       pub front-recovered : (r : List ℕ) → take (length (take (p .t) zs)) r ≡ differences (p .q) (take (p .t) zs) vs (take (p .t) cs)
           → take (p .t) r ≡ recovered p (signatureWith c z) exponents vs
       front-recovered r e =
-          ap (λ (n : ℕ). take n r) (sym (ap length of-z ∙ length-evaluations p z exponents ∙ asked .exponents-size)) ∙ e
+          ap (λ (n : ℕ). take n r) (sym (ap length of-z ∙ length-evaluation-residues p z exponents ∙ asked .exponents-size)) ∙ e
           ∙ ap₂ (λ (zs cs : List ℕ). differences (p .q) zs vs cs) of-z challenge-is

@@ -9,7 +9,7 @@ ghost use Rattle.algebra.specs.Integer.{residue};
 ghost use Rattle.parameters.specs.Limits.{maxN};
 ghost use Rattle.parameters.specs.Ring.{Usable};
 ghost use Rattle.parameters.specs.Sound.{Limited};
-ghost use Rattle.polynomial.specs.Evaluation.{evaluations};
+ghost use Rattle.polynomial.specs.Evaluation.{evaluationResidues};
 ghost use Rattle.challenge.specs.Draw.{drawChallenge};
 ghost use Rattle.encoding.specs.Challenge.{challengeOf};
 ghost use Rattle.refusal.specs.Answer.{verdictStates};
@@ -31,7 +31,7 @@ use parameters::MAX_T;
 use parameters::Params;
 use parameters::params_of;
 use parameters::ring_of;
-use polynomial::evaluation::evaluate;
+use polynomial::evaluation::evaluate_residues;
 use polynomial::product::in_range16;
 use refusal::Verdict;
 use refusal::WRONG_ENTRIES;
@@ -100,15 +100,15 @@ fn is_equal(c: &[i8], d: &[i8]) -> bool
     same
 }
 
-// The evaluations of a polynomial at the points, in front.
+// The evaluations of a polynomial at the points, in 0..q-1, in front.
 fn evaluations_at(p: Params, powers: &[u32; MAX_N], exponents: &[u16], f: &[i16]) -> [u32; MAX_T]
     requires { ⌜ Usable p (now powers) ⌝ }
     requires { ⌜ (length (now exponents) ≡ p .t) × T (areBelow (p .n) (now exponents)) × (length (now f) ≡ p .n) ⌝ }
-    ensures { λ r. ⌜ take (p .t) r ≡ evaluations p (now (f .entry)) (now (exponents .entry)) ⌝ }
+    ensures { λ r. ⌜ take (p .t) r ≡ evaluationResidues p (now (f .entry)) (now (exponents .entry)) ⌝ }
 {
     let t = p.t;
     let mut out = [0u32; MAX_T];
-    evaluate(p, powers, f, exponents, &mut out[..t]);
+    evaluate_residues(p, powers, f, exponents, &mut out[..t]);
     out
 }
 

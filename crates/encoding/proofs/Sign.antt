@@ -1,4 +1,4 @@
--- Signed numbers read back from their bits, and 16 bits read as a signed number.
+-- The bits of signed numbers, and 16 bits read as a signed number.
 -- Assumes nothing.
 use mathlib.Core.Path.{_≡_, refl, sym, ap, _∙_}
 use Prim.Native.Nat.{ℕ, zero, suc, _-_, _^_, _≤_, _<_}
@@ -9,8 +9,9 @@ use lib.Pow.{pow-pos}
 use lib.Signed.{mag}
 use mir.Syntax.{Width, w16}
 use mir.Val.{toZ, ofZ, hbits}
-use mir.Facts.{toZ-ofZ, toZ-pos}
+use mir.Facts.{toZ-pos}
 use borrow.Author.Tests.{lt-ltb, le-ltb}
+use Rattle.algebra.proofs.Signed.{reread}
 use Rattle.encoding.specs.Bytes.{signed16}
 
 pub mag-le : (z : ℤ) → mag z ≤ natAbs z
@@ -22,13 +23,9 @@ minus-positive : (n : ℕ) → negsuc 0 -ℤ pos n ≡ negsuc n
 minus-positive zero = refl
 minus-positive (suc n) = ap negsuc (omega arith)
 
--- a signed number read back from its bits
-module _ (w : Width) (z : ℤ) (h : mag z < 2 ^ hbits w) where
-  pub reread : toZ w (ofZ w z) ≡ z
-  reread = toZ-ofZ {w = w} (record { sfits = h })
-
-  pub zero-bits : ofZ w z ≡ 0 → z ≡ pos 0
-  zero-bits e = sym reread ∙ ap (toZ w) e ∙ toZ-pos w (pow-pos (hbits w))
+-- bits of 0 are those of the number 0
+pub zero-bits : (w : Width) (z : ℤ) → mag z < 2 ^ hbits w → ofZ w z ≡ 0 → z ≡ pos 0
+zero-bits w z h e = sym (reread w z h) ∙ ap (toZ w) e ∙ toZ-pos w (pow-pos (hbits w))
 
 -- ---- 16 bits read as a signed number
 

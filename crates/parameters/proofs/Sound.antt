@@ -3,10 +3,10 @@
 -- Assumes nothing.
 use mathlib.Core.Path.{_≡_, sym, subst}
 use mathlib.Core.Bool.{Bool, true}
-use mathlib.Core.List.{List}
+use mathlib.Core.List.{List, [], _∷_}
 use mathlib.Core.Logic.{⊎-elim}
-use Prim.Native.Nat.{ℕ, _<_, _≤_}
-use lib.Dec.{T, ltb→lt, leb→le, eqb→eq}
+use Prim.Native.Nat.{ℕ, _%_, _<_, _≤_}
+use lib.Dec.{T, eqb, ltb→lt, leb→le, eqb→eq}
 use lib.ListN.{length, getD, List·getD-eq-default}
 use Rattle.algebra.specs.All.{all}
 use Rattle.algebra.proofs.All.{all-at}
@@ -59,6 +59,13 @@ set-sound s h = sound-of-test (setOf s) (in-table soundTests tt s h)
 pub set-fitting : (s : ℕ) → s < 5 → Fitting (setOf s)
 unfolding sets
 set-fitting s h = fitting-of-test (setOf s) (in-table fittingTests tt s h)
+
+-- the modulus of each is odd
+pub set-odd : (s : ℕ) → s < 5 → setOf s .q % 2 ≡ 1
+unfolding sets
+set-odd s h =
+    let tests : Params → List Bool = λ (p : Params). eqb (p .q % 2) 1 ∷ [] in
+    eqb→eq (setOf s .q % 2) 1 (each (tests (setOf s)) (in-table tests tt s h) 0 (ltb→lt 0 1 tt))
 
 pub set-limited : (s : ℕ) → Limited (setOf s)
 unfolding sets

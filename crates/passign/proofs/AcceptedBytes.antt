@@ -13,7 +13,7 @@ use lib.Signed.{mag}
 use Rattle.algebra.proofs.All.{all-weaker}
 use Rattle.algebra.proofs.Test.{holds-true}
 use Rattle.parameters.specs.declared.Params.{Params}
-use Rattle.polynomial.specs.Evaluation.{evaluations}
+use Rattle.polynomial.specs.Evaluation.{evaluationResidues}
 use Rattle.polynomial.specs.Sparse.{Sparse}
 use Rattle.polynomial.proofs.Linear.{length-z}
 use Rattle.encoding.specs.Challenge.{entriesOf, areEntries, challengeOf}
@@ -43,7 +43,7 @@ module _ {draw : Drawer} {p : Params} {key exponents : List ℕ} {masks : List �
   bytes = signWrittenIn draw p key exponents masks message out
 
   sparse : Sparse p c
-  sparse = e .draws (evaluations p (maskAt p masks i) exponents) message c (passes-of a .challenge)
+  sparse = e .draws (evaluationResidues p (maskAt p masks i) exponents) message c (passes-of a .challenge)
 
   few : length c ≤ 32768
   few = omega (arith, sparse .size, e .fitting .size)

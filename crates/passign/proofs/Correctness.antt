@@ -8,8 +8,8 @@ use lib.IntN.{ℤ}
 use borrow.Author.Tests.{ltb-true}
 use Rattle.algebra.proofs.Test.{holds-true}
 use Rattle.parameters.specs.declared.Params.{Params}
-use Rattle.polynomial.specs.Evaluation.{evaluations}
-use Rattle.polynomial.proofs.EvaluationLaws.{length-evaluations, evaluations-below}
+use Rattle.polynomial.specs.Evaluation.{evaluationResidues}
+use Rattle.polynomial.proofs.EvaluationLaws.{length-evaluation-residues, evaluation-residues-below}
 use Rattle.challenge.specs.Draw.{drawChallenge}
 use Rattle.encoding.specs.Encoding.{publicKey, PublicKeyRange, areExponents, areEvaluations, exponentsOf, evaluationsOf, keyOf, signatureBytes}
 use Rattle.encoding.proofs.Range.{public-key-range}
@@ -34,9 +34,9 @@ use Rattle.passign.proofs.FiveSets.{set-encodable}
 use Rattle.passign.proofs.Entry.{sign-entry, check-entry}
 
 module _ {draw : Drawer} {p : Params} (e : Encodable draw p) (key exponents : List ℕ) (masks : List ℤ) (message out : List ℕ) where
-  -- the public evaluations, and what is checked
+  -- the public evaluations in 0..q-1, and what is checked
   abbrev vs : List ℕ
-  vs = evaluations p (keyOf key) exponents
+  vs = evaluationResidues p (keyOf key) exponents
 
   abbrev public : List ℕ
   public = publicKeyIn p key exponents
@@ -46,13 +46,13 @@ module _ {draw : Drawer} {p : Params} (e : Encodable draw p) (key exponents : Li
 
   module _ {r : Signed} {i : ℕ} (a : SignedAs draw p key exponents masks message out r i) where
     below : areEvaluations p vs ≡ true
-    below = holds-true (areEvaluations p vs) (evaluations-below (e .sound) (keyOf key) exponents)
+    below = holds-true (areEvaluations p vs) (evaluation-residues-below (e .sound) (keyOf key) exponents)
 
     range : PublicKeyRange p exponents vs
     range =
         let k = allowed-of a in
         public-key-range (e .fitting) exponents vs (k .exponents-size) (k .exponents-rise)
-        (length-evaluations p (keyOf key) exponents ∙ k .exponents-size) below
+        (length-evaluation-residues p (keyOf key) exponents ∙ k .exponents-size) below
 
     exponents-back : exponentsOf p public ≡ exponents
     unfolding publicKeyIn

@@ -7,7 +7,8 @@ use mathlib.Core.Logic.{_↔_}
 use Prim.Native.Nat.{ℕ}
 use lib.IntN.{ℤ}
 use Rattle.parameters.specs.declared.Params.{Params}
-use Rattle.encoding.specs.Encoding.{publicKey}
+use Rattle.polynomial.proofs.SignedForm.{same-residues}
+use Rattle.encoding.specs.Encoding.{keyOf, publicKey}
 use Rattle.scheme.specs.Scheme.{Drawer}
 use Rattle.values.specs.Keys.{publicKeyIn}
 use Rattle.passign.specs.Hiding.{Encodable, Library, anyLibrary, ourLibrary, SigningRecord, paramsOf, Accepted}
@@ -23,7 +24,8 @@ exactly-one a h = record { it = a; does = h a .1 refl; only = λ x. h x .0 }
 pub checked-yes : {l : Library} {m : SigningRecord} → AsDefined l m → (other : List ℕ) → OtherKey l m other → CheckedYes l m other
 unfolding publicKeyIn
 checked-yes {l} {m} f other o = record {
-  answer = ap₂ (λ (s : ℕ) (vs : List ℕ). l .checks (publicKey s (m .call .exponents) vs) (m .call .message) (m .bytes)) (o .set) (o .same) ∙ f .checks;
+  answer = ap₂ (λ (s : ℕ) (vs : List ℕ). l .checks (publicKey s (m .call .exponents) vs) (m .call .message) (m .bytes)) (o .set)
+      (same-residues (f .encodable .sound) (keyOf other) (keyOf (m .call .key)) (m .call .exponents) (o .same)) ∙ f .checks;
 }
 
 -- any numbering of sets, with any way to draw

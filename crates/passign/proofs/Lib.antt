@@ -1,4 +1,5 @@
 pub mod WorkedCases
+pub mod SignedEvaluations
 pub mod RefusedWritesNothing
 pub mod Correctness
 pub mod VerdictRule

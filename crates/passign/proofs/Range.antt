@@ -12,7 +12,7 @@ use Rattle.algebra.proofs.Test.{true-holds}
 use Rattle.algebra.specs.Integer.{within}
 use Rattle.parameters.specs.declared.Params.{Params}
 use Rattle.polynomial.specs.Polynomial.{zOf, weight}
-use Rattle.polynomial.specs.Evaluation.{evaluations}
+use Rattle.polynomial.specs.Evaluation.{evaluationResidues}
 use Rattle.polynomial.proofs.Bound.{z-within}
 use Rattle.challenge.specs.Draw.{drawChallenge}
 use Rattle.challenge.proofs.Challenge.{challenge-sparse}
@@ -29,16 +29,16 @@ use Rattle.encoding.proofs.EncodedKey.{key-ternary}
 -- in any set, with any way to draw whose challenges have weight at most b
 pub range : (draw : Drawer) (p : Params) → ((w m : List ℕ) (c : List ℤ) → draw p w m ≡ some c → weight c ≤ p .b)
     → (key exponents : List ℕ) (masks : List ℤ) (message : List ℕ) (room : ℕ) → signRefusalIn p key exponents masks room ≡ 0
-    → (i : ℕ) (c : List ℤ) → draw p (evaluations p (maskAt p masks i) exponents) message ≡ some c
+    → (i : ℕ) (c : List ℤ) → draw p (evaluationResidues p (maskAt p masks i) exponents) message ≡ some c
     → T (within (p .k + p .b) (zOf (keyOf key) c (maskAt p masks i)))
 range draw p light key exponents masks message room allowed i c e =
     let k = sign-allowed p key exponents masks room .0 allowed in
     z-within (p .k) (p .b) (keyOf key) c (maskAt p masks i) (key-ternary key (k .ternary))
-    (light (evaluations p (maskAt p masks i) exponents) message c e) (mask-small p masks (true-holds (k .small)) i)
+    (light (evaluationResidues p (maskAt p masks i) exponents) message c e) (mask-small p masks (true-holds (k .small)) i)
 
 -- the entry, in the five sets
 pub entry-range : (key exponents : List ℕ) (masks : List ℤ) (message out : List ℕ) → signRefusal key exponents masks message out ≡ 0
-    → (i : ℕ) (c : List ℤ) → drawChallenge (setIn key) (evaluations (setIn key) (maskAt (setIn key) masks i) exponents) message ≡ some c
+    → (i : ℕ) (c : List ℤ) → drawChallenge (setIn key) (evaluationResidues (setIn key) (maskAt (setIn key) masks i) exponents) message ≡ some c
     → T (within (setIn key .k + setIn key .b) (zOf (keyOf key) c (maskAt (setIn key) masks i)))
 entry-range key exponents masks message out allowed =
     range drawChallenge (setIn key) (λ w m c e. le-of-eq (challenge-sparse (setIn key) w m c e .full)) key exponents masks message (length out)

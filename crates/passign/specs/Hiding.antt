@@ -16,9 +16,9 @@ use Rattle.parameters.specs.declared.Params.{Params}
 use Rattle.parameters.specs.Sets.{setOf}
 use Rattle.parameters.specs.Sound.{Sound, Fitting}
 use Rattle.polynomial.specs.Polynomial.{sub, star}
-use Rattle.polynomial.specs.Evaluation.{evaluations}
+use Rattle.polynomial.specs.Evaluation.{evaluations, evaluationResidues}
 use Rattle.challenge.specs.Draw.{drawChallenge}
-use Rattle.encoding.specs.Encoding.{secretKeySize, isKey, keyOf, publicKey}
+use Rattle.encoding.specs.Encoding.{secretKeySize, isKey, keyOf}
 use Rattle.scheme.specs.Scheme.{Drawer, SparseDrawer, Signature}
 use Rattle.signing.specs.Signer.{maskAt}
 use Rattle.refusal.specs.declared.Signing.{Signing}
@@ -28,6 +28,7 @@ use Rattle.refusal.specs.declared.Verdict.the-variants as verdict
 use Rattle.refusal.specs.Answer.{setByte}
 use Rattle.signing.specs.Sign.{signAnswerIn, signWrittenIn, signAnswer, signWritten}
 use Rattle.checking.specs.Check.{signatureRead, checkAnswerIn, checkAnswer}
+use Rattle.values.specs.Keys.{publicKeyIn}
 
 -- what the theorems on bytes ask of a set and a way to draw: besides soundness that all has room in the encodings, and that a drawn
 -- challenge is sparse
@@ -107,7 +108,7 @@ module _ (l : Library) (m : SigningRecord) where
     pub bytes : l .writes (m .call) ≡ m .bytes
 
   -- its commitment: that of the mask that signed
-  abbrev pub commitmentOf : List ℕ
+  abbrev pub commitmentOf : List ℤ
   commitmentOf = evaluations paramsOf (maskAt paramsOf (m .call .masks) (m .mask)) (m .call .exponents)
 
   -- the challenge and the point z that its bytes mean
@@ -115,7 +116,7 @@ module _ (l : Library) (m : SigningRecord) where
   signatureIn = signatureRead paramsOf (m .bytes)
 
   -- the public evaluations of an encoded key at its points
-  abbrev pub publicEvaluations : List ℕ → List ℕ
+  abbrev pub publicEvaluations : List ℕ → List ℤ
   publicEvaluations key = evaluations paramsOf (keyOf key) (m .call .exponents)
 
   -- another ternary key of the same set, in its encoding: its public evaluations agree with those of the key that signed at each of the points
@@ -130,13 +131,13 @@ module _ (l : Library) (m : SigningRecord) where
     pub size : length y ≡ paramsOf .n
     pub small : T (within (paramsOf .k) y)
     pub commitment : evaluations paramsOf y (m .call .exponents) ≡ commitmentOf
-    pub challenge : l .draw paramsOf (evaluations paramsOf y (m .call .exponents)) (m .call .message) ≡ some (signatureIn .c)
+    pub challenge : l .draw paramsOf (evaluationResidues paramsOf y (m .call .exponents)) (m .call .message) ≡ some (signatureIn .c)
     pub answer : l .signs (offeredAlone (m .call) other y) ≡ signing.Signed 0
     pub bytes : l .writes (offeredAlone (m .call) other y) ≡ m .bytes
 
-  -- the check, given the signature, the shared public evaluations and the same points and message, says yes
+  -- the check, given the signature, the shared public evaluations in the other key's public key, and the same points and message, says yes
   pub record CheckedYes (other : List ℕ) : Type 0 where
-    pub answer : l .checks (publicKey (setByte other) (m .call .exponents) (publicEvaluations other)) (m .call .message) (m .bytes) ≡ verdict.Yes
+    pub answer : l .checks (publicKeyIn paramsOf other (m .call .exponents)) (m .call .message) (m .bytes) ≡ verdict.Yes
 
   -- the mask that does it: the signature's z minus the product ⋆ of the other key and the signature's challenge
   abbrev pub maskFor : List ℕ → List ℤ

@@ -30,7 +30,8 @@ pub record SigningLeftAsItWas (answer : Signing) (before after : List ℕ) : Typ
 
 -- each entry that is lent a buffer, for every input
 pub record RefusedWritesNothing : Type 0 where
-  pub evaluate : (s : ℕ) (f : List ℤ) (exponents out : List ℕ) → LeftAsItWas (evaluateRefusal s f exponents out) out (evaluateWritten s f exponents out)
+  pub evaluate : (s : ℕ) (f : List ℤ) (exponents : List ℕ) (out : List ℤ)
+      → LeftAsItWas (evaluateRefusal s f exponents out) out (evaluateWritten s f exponents out)
   pub draw : (s : ℕ) (pool : List ℕ) (out : List ℤ) → LeftAsItWas (drawRefusal s pool out) out (drawWritten s pool out)
   pub public-key : (key exponents out : List ℕ) → LeftAsItWas (publicKeyRefusal key exponents out) out (publicKeyWritten key exponents out)
   pub sign : (key exponents : List ℕ) (masks : List ℤ) (message out : List ℕ)

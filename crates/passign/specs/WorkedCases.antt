@@ -1,5 +1,5 @@
--- The worked cases of document 01, in set 0 but for a size in set 4: rows of one table, and the test of a row by the definitions that the entries'
--- contracts cite.
+-- The worked cases of document 01, in set 0 but for a size in set 4, and evaluations at both ends of the signed form: rows of one table, and the test of a
+-- row by the definitions that the entries' contracts cite.
 -- Assumes nothing.
 use mathlib.Core.Bool.{Bool, true, false, _&&_, not, cond}
 use mathlib.Core.List.{List, [], _∷_, _++_, map}
@@ -24,7 +24,7 @@ pub data Case : Type 0 where
   -- a pool keeps these indices only and is spent: a draw from it is refused with 11
   spent : List ℕ → List ℕ → Case
   -- a polynomial has these evaluations at points 1 and 2
-  evaluates : List ℤ → List ℕ → Case
+  evaluates : List ℤ → List ℤ → Case
   -- key ⋆ challenge is this product
   multiplies : List ℤ → List ℤ → List ℤ → Case
   -- key, challenge and mask give this point, in range or not
@@ -78,16 +78,21 @@ cases =
     -- sign i goes to the i-th index drawn, here 4 and then 1, and not to the i-th smallest
     ∷ draws (padded (0x01 ∷ replicate 7 0 ++ (0x00 ∷ 0x04 ∷ 0x00 ∷ 0x01 ∷ []))) (poly (pos 0) (pos 1) (pos 0) (pos 0) (minus 1))
     ∷ spent (padded []) (0 ∷ [])
-    ∷ evaluates key (7 ∷ 30 ∷ [])
+    ∷ evaluates key (pos 7 ∷ minus 1 ∷ [])
     ∷ multiplies key challenge (poly (pos 1) (minus 1) (pos 1) (minus 2) (pos 1))
     ∷ reaches key challenge (poly (pos 3) (pos 4) (minus 5) (pos 2) (pos 0)) (poly (pos 4) (pos 3) (minus 4) (pos 0) (pos 1)) true
     ∷ reaches key challenge (poly (pos 3) (pos 4) (minus 6) (pos 2) (pos 0)) (poly (pos 4) (pos 3) (minus 5) (pos 0) (pos 1)) false
-    ∷ evaluates oneKey (21 ∷ 25 ∷ [])
-    ∷ evaluates otherKey (21 ∷ 25 ∷ [])
+    ∷ evaluates oneKey (minus 10 ∷ minus 6 ∷ [])
+    ∷ evaluates otherKey (minus 10 ∷ minus 6 ∷ [])
     ∷ reaches oneKey sharedChallenge oneMask sharedPoint true
     ∷ reaches otherKey sharedChallenge otherMask sharedPoint true
-    ∷ evaluates oneMask (19 ∷ 18 ∷ [])
-    ∷ evaluates otherMask (19 ∷ 18 ∷ [])
+    ∷ evaluates oneMask (minus 12 ∷ minus 13 ∷ [])
+    ∷ evaluates otherMask (minus 12 ∷ minus 13 ∷ [])
+    -- both ends, 15 and -15, each from a sum inside and from one just beyond the other end
+    ∷ evaluates (poly (pos 15) (pos 0) (pos 0) (pos 0) (pos 0)) (pos 15 ∷ pos 15 ∷ [])
+    ∷ evaluates (poly (minus 16) (pos 0) (pos 0) (pos 0) (pos 0)) (pos 15 ∷ pos 15 ∷ [])
+    ∷ evaluates (poly (minus 15) (pos 0) (pos 0) (pos 0) (pos 0)) (minus 15 ∷ minus 15 ∷ [])
+    ∷ evaluates (poly (pos 16) (pos 0) (pos 0) (pos 0) (pos 0)) (minus 15 ∷ minus 15 ∷ [])
     ∷ encodes challenge (poly (pos 4) (pos 3) (minus 4) (pos 0) (pos 1))
     (0x00 ∷ 0x00 ∷ 0x02 ∷ 0x80 ∷ 0x03 ∷ 0x00 ∷ 0x04 ∷ 0x00 ∷ 0x03 ∷ 0xFF ∷ 0xFC ∷ 0x00 ∷ 0x00 ∷ 0x00 ∷ 0x01 ∷ [])
     ∷ measures 0 15
@@ -104,7 +109,7 @@ sameBool a b = cond a b (not b)
 unfoldable pub holds : Case → Bool
 holds (draws xs c) = isDrawn (draw (setOf 0) xs) c
 holds (spent xs js) = sameNumbers (kept (setOf 0) xs (valueCount xs)) js && eqb (drawRefusal 0 xs (replicate (setOf 0 .n) (pos 0))) 11
-holds (evaluates f vs) = sameNumbers (evaluations (setOf 0) f (1 ∷ 2 ∷ [])) vs
+holds (evaluates f vs) = equal (evaluations (setOf 0) f (1 ∷ 2 ∷ [])) vs
 holds (multiplies f c r) = equal (star f c) r
 holds (reaches f c y z inside) = equal (zOf f c y) z && sameBool (within (setOf 0 .k - setOf 0 .b) z) inside
 holds (encodes c z xs) = sameNumbers (signatureOf 0 (record { c = c; z = z })) xs

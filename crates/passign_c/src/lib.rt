@@ -74,7 +74,7 @@ pub extern "C" fn passign_evaluate(
     set: u8,
     coefficients: &[i16],
     points: &[u16],
-    evaluations: &mut [u32],
+    evaluations: &mut [i32],
 ) -> u32
     ensures answer { λ r. ⌜ r ≡ evaluateRefusal set (now (coefficients .entry)) (now (points .entry)) (now (evaluations .entry)) ⌝ }
     ensures written { λ r. ⌜ now (evaluations .exit) ≡ evaluateWritten set (now (coefficients .entry)) (now (points .entry)) (now (evaluations .entry)) ⌝ }

@@ -2,7 +2,7 @@
 -- Assumes nothing.
 use mathlib.Core.Path.{_≡_, refl, sym, ap, ap₂, _∙_}
 use mathlib.Core.List.{List, [], _∷_}
-use Prim.Native.Nat.{ℕ, zero, suc, _+_, _*_, _%_, _^_, _<_}
+use Prim.Native.Nat.{ℕ, zero, suc, _*_, _^_, _<_}
 use native.Mathlib.Nat.{zero-mul, suc-mul, mul-comm, pow-zero, mod-eq-of-lt, mul-mod-right}
 use native.Mathlib.Omega.{arith}
 use lib.Pow.{pow-add}
@@ -10,23 +10,28 @@ use lib.IntN.{ℤ, pos, _+ℤ_, _-ℤ_, _*ℤ_}
 use lib.Dec.{T, ltb, lt→ltb}
 use lib.ListN.{length, length-map}
 use Rattle.algebra.specs.All.{areBelow}
-use Rattle.algebra.specs.Integer.{residue, sum}
+use Rattle.algebra.specs.Integer.{residue, centred, sum}
 use Rattle.algebra.proofs.Test.{and-intro}
 use Rattle.algebra.proofs.Ring.{*ℤ-idr, *ℤ-left-comm}
 use Rattle.algebra.proofs.Remainder.{pow-round}
 use Rattle.algebra.proofs.Sum.{sum-same, sum-front, sum-times}
 use Rattle.algebra.proofs.Congruence.{Cong, cong-refl, cong-eq, cong-sym, cong-trans, cong-add, cong-mul, cong-neg}
 use Rattle.algebra.proofs.Congruence.{cong-residue, residue-below, residue-eq, eq-residue}
+use Rattle.algebra.proofs.Centred.{cong-centred, centred-eq}
 use Rattle.parameters.specs.declared.Params.{Params}
 use Rattle.parameters.specs.Sound.{Sound}
 use Rattle.polynomial.specs.Polynomial.{coefficient, add, neg, sub, star, zOf}
-use Rattle.polynomial.specs.Evaluation.{term, evaluation, evaluations}
+use Rattle.polynomial.specs.Evaluation.{term, sumAt, evaluation, evaluationResidue, evaluations, evaluationResidues}
 use Rattle.polynomial.proofs.Linear.{sub-add}
 use Rattle.polynomial.proofs.Horner.{at, power, at-add, at-neg, at-star}
 
 pub length-evaluations : (p : Params) (f : List ℤ) (js : List ℕ) → length (evaluations p f js) ≡ length js
 unfolding evaluations
 length-evaluations p f js = length-map js (evaluation p f)
+
+pub length-evaluation-residues : (p : Params) (f : List ℤ) (js : List ℕ) → length (evaluationResidues p f js) ≡ length js
+unfolding evaluationResidues
+length-evaluation-residues p f js = length-map js (evaluationResidue p f)
 
 -- ---- the sum of the definition is Horner's value at g to the j
 power-next : (g j i : ℕ) → g ^ (suc i * j) ≡ g ^ (i * j) * g ^ j
@@ -46,42 +51,51 @@ sum-at x (a ∷ f) =
     ∙ sum-times x (λ (i : ℕ). coefficient f i *ℤ power x i) (length f)
     ∙ ap (λ (u : ℤ). x *ℤ u) (sum-at x f))
 
-sum-is-at : (p : Params) (f : List ℤ) (j : ℕ) → sum (term p f j) (length f) ≡ at (pos (p .g ^ j)) f
+sum-is-at : (p : Params) (f : List ℤ) (j : ℕ) → sumAt p f j ≡ at (pos (p .g ^ j)) f
 sum-is-at p f j =
     sum-same (term p f j) (λ (i : ℕ). coefficient f i *ℤ power (pos (p .g ^ j)) i) (length f)
     (λ i l. ap (λ (w : ℤ). coefficient f i *ℤ w) (sym (power-is (p .g) j i)))
     ∙ sum-at (pos (p .g ^ j)) f
 
-pub evaluation-at : (p : Params) (f : List ℤ) (j : ℕ) → evaluation p f j ≡ residue (at (pos (p .g ^ j)) f) (p .q)
+evaluation-at : (p : Params) (f : List ℤ) (j : ℕ) → evaluation p f j ≡ centred (at (pos (p .g ^ j)) f) (p .q)
 unfolding evaluation
-evaluation-at p f j = ap (λ (s : ℤ). residue s (p .q)) (sum-is-at p f j)
+evaluation-at p f j = ap (λ (s : ℤ). centred s (p .q)) (sum-is-at p f j)
+
+residue-at : (p : Params) (f : List ℤ) (j : ℕ) → evaluationResidue p f j ≡ residue (at (pos (p .g ^ j)) f) (p .q)
+unfolding evaluationResidue
+residue-at p f j = ap (λ (s : ℤ). residue s (p .q)) (sum-is-at p f j)
 
 module _ {p : Params} (sound : Sound p) where
   positive : 0 < p .q
   positive = omega (arith, sound .modulus)
 
-  pub evaluation-below : (f : List ℤ) (j : ℕ) → evaluation p f j < p .q
-  evaluation-below f j = rw (evaluation-at p f j) (residue-below positive (at (pos (p .g ^ j)) f))
+  residue-small : (f : List ℤ) (j : ℕ) → evaluationResidue p f j < p .q
+  residue-small f j = rw (residue-at p f j) (residue-below positive (at (pos (p .g ^ j)) f))
 
-  pub evaluations-below : (f : List ℤ) (js : List ℕ) → T (areBelow (p .q) (evaluations p f js))
-  unfolding evaluations
-  evaluations-below f [] = tt
-  evaluations-below f (j ∷ js) =
-      and-intro (ltb (evaluation p f j) (p .q)) (areBelow (p .q) (evaluations p f js)) (lt→ltb (evaluation p f j) (p .q) (evaluation-below f j))
-      (evaluations-below f js)
-
-  -- polynomials whose values at g to the j agree modulo q have one evaluation
-  pub evaluation-of-cong : (f h : List ℤ) (j : ℕ) → Cong (p .q) (at (pos (p .g ^ j)) f) (at (pos (p .g ^ j)) h) → evaluation p f j ≡ evaluation p h j
-  evaluation-of-cong f h j e = evaluation-at p f j ∙ residue-eq positive e ∙ sym (evaluation-at p h j)
+  pub evaluation-residues-below : (f : List ℤ) (js : List ℕ) → T (areBelow (p .q) (evaluationResidues p f js))
+  unfolding evaluationResidues
+  evaluation-residues-below f [] = tt
+  evaluation-residues-below f (j ∷ js) =
+      and-intro (ltb (evaluationResidue p f j) (p .q)) (areBelow (p .q) (evaluationResidues p f js))
+      (lt→ltb (evaluationResidue p f j) (p .q) (residue-small f j)) (evaluation-residues-below f js)
 
   module _ (j : ℕ) where
-    -- ---- values at g to the j modulo q, of which the evaluation is one
+    -- ---- values at g to the j modulo q, of which the evaluation is one in either form
     value : List ℤ → ℤ
     value f = at (pos (p .g ^ j)) f
 
-    is-value : (f : List ℤ) → Cong (p .q) (pos (evaluation p f j)) (value f)
+    is-value : (f : List ℤ) → Cong (p .q) (evaluation p f j) (value f)
     unfolding value
-    is-value f = rw (evaluation-at p f j) (cong-sym (cong-residue positive (at (pos (p .g ^ j)) f)))
+    is-value f = rw (evaluation-at p f j) (cong-sym (cong-centred positive (at (pos (p .g ^ j)) f)))
+
+    residue-is-value : (f : List ℤ) → Cong (p .q) (pos (evaluationResidue p f j)) (value f)
+    unfolding value
+    residue-is-value f = rw (residue-at p f j) (cong-sym (cong-residue positive (at (pos (p .g ^ j)) f)))
+
+    -- what agrees with a polynomial's value modulo q has its evaluation
+    evaluation-of-cong : (f : List ℤ) {v : ℤ} → Cong (p .q) (value f) v → evaluation p f j ≡ centred v (p .q)
+    unfolding value
+    evaluation-of-cong f e = evaluation-at p f j ∙ centred-eq positive e
 
     cyclic : Cong (p .q) (power (pos (p .g ^ j)) (p .n)) (pos 1)
     cyclic =
@@ -98,38 +112,33 @@ module _ {p : Params} (sound : Sound p) where
     value-z f c y e = cong-trans (cong-eq (at-add (pos (p .g ^ j)) (star f c) y)) (cong-add (value-star f c e) (cong-refl (value y)))
 
     -- ---- the laws
-    pub evaluation-add : (f h : List ℤ) → evaluation p (add f h) j ≡ (evaluation p f j + evaluation p h j) % p .q
+    pub evaluation-add : (f h : List ℤ) → evaluation p (add f h) j ≡ centred (evaluation p f j +ℤ evaluation p h j) (p .q)
     unfolding value
     evaluation-add f h =
-        evaluation-at p (add f h) j
-        ∙ residue-eq positive {b = pos (evaluation p f j + evaluation p h j)}
-        (cong-trans (cong-eq (at-add (pos (p .g ^ j)) f h)) (cong-sym (cong-add (is-value f) (is-value h))))
+        evaluation-of-cong (add f h) (cong-trans (cong-eq (at-add (pos (p .g ^ j)) f h)) (cong-sym (cong-add (is-value f) (is-value h))))
 
-    pub evaluation-star : (f c : List ℤ) → length f ≡ p .n → evaluation p (star f c) j ≡ evaluation p f j * evaluation p c j % p .q
-    unfolding value
-    evaluation-star f c e =
-        evaluation-at p (star f c) j
-        ∙ residue-eq positive {b = pos (evaluation p f j * evaluation p c j)}
-        (cong-trans (value-star f c e) (cong-sym (cong-mul (is-value f) (is-value c))))
+    pub evaluation-star : (f c : List ℤ) → length f ≡ p .n → evaluation p (star f c) j ≡ centred (evaluation p f j *ℤ evaluation p c j) (p .q)
+    evaluation-star f c e = evaluation-of-cong (star f c) (cong-trans (value-star f c e) (cong-sym (cong-mul (is-value f) (is-value c))))
 
-    -- the point's evaluation minus the product of the key's and the challenge's is the mask's: how a check gets the commitment
-    pub evaluation-mask : (f c y : List ℤ) → length f ≡ p .n
-        → residue (pos (evaluation p (zOf f c y) j) -ℤ pos (evaluation p f j * evaluation p c j)) (p .q) ≡ evaluation p y j
+    -- the point's evaluation minus the product of the key's and the challenge's is the mask's: how a check gets the commitment, in 0..q-1
+    pub residue-of-mask : (f c y : List ℤ) → length f ≡ p .n
+        → residue (pos (evaluationResidue p (zOf f c y) j) -ℤ pos (evaluationResidue p f j * evaluationResidue p c j)) (p .q) ≡ evaluationResidue p y j
     unfolding value
-    evaluation-mask f c y e =
+    residue-of-mask f c y e =
         residue-eq positive
-        (cong-trans (cong-add (cong-trans (is-value (zOf f c y)) (value-z f c y e)) (cong-neg (cong-mul (is-value f) (is-value c))))
+        (cong-trans (cong-add (cong-trans (residue-is-value (zOf f c y)) (value-z f c y e)) (cong-neg (cong-mul (residue-is-value f) (residue-is-value c))))
         (cong-eq (sub-add (value y) (value f *ℤ value c))))
-        ∙ sym (evaluation-at p y j)
+        ∙ sym (residue-at p y j)
 
     -- where two keys have one evaluation, the point minus the other key's product has the mask's: the other key's own mask
     pub evaluation-other-mask : (f h c y : List ℤ) → length f ≡ p .n → length h ≡ p .n → evaluation p f j ≡ evaluation p h j
         → evaluation p (sub (zOf f c y) (star h c)) j ≡ evaluation p y j
     unfolding value
     evaluation-other-mask f h c y e e′ same =
-        let agree = cong-trans (cong-sym (is-value h)) (cong-trans (cong-eq (ap pos (sym same))) (is-value f)) in
+        let agree = cong-trans (cong-sym (is-value h)) (cong-trans (cong-eq (sym same)) (is-value f)) in
         let minus = cong-neg (cong-trans (value-star h c e′) (cong-mul agree (cong-refl (value c)))) in
-        evaluation-of-cong (sub (zOf f c y) (star h c)) y j
+        evaluation-of-cong (sub (zOf f c y) (star h c))
         (cong-trans (cong-eq (at-add (pos (p .g ^ j)) (zOf f c y) (neg (star h c))))
         (cong-trans (cong-add (value-z f c y e) (cong-trans (cong-eq (at-neg (pos (p .g ^ j)) (star h c))) minus))
         (cong-eq (sub-add (value y) (value f *ℤ value c)))))
+        ∙ sym (evaluation-at p y j)

@@ -1,3 +1,4 @@
-// Polynomials modulo x^N - 1: evaluation at powers of g, the point f ⋆ c + y, and the range test.
+// Polynomials modulo x^N - 1: evaluation at powers of g, the point f ⋆ c + y, the range test, and remainders by q.
 pub mod evaluation;
 pub mod product;
+pub mod remainder;

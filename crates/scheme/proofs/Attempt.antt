@@ -11,7 +11,7 @@ use lib.IntN.{ℤ}
 use Rattle.algebra.specs.Integer.{within}
 use Rattle.parameters.specs.declared.Params.{Params}
 use Rattle.polynomial.specs.Polynomial.{zOf}
-use Rattle.polynomial.specs.Evaluation.{evaluations}
+use Rattle.polynomial.specs.Evaluation.{evaluationResidues}
 use Rattle.scheme.specs.Scheme.{Drawer, Signature, withChallenge, attempt}
 
 -- s is the signature by key f and mask y, where o is what was drawn
@@ -42,6 +42,6 @@ module _ (p : Params) (f y : List ℤ) where
       ∙ cond-in (within (p .k - p .b) (s .z)) s (a .range)
 
 pub attempt-iff : (draw : Drawer) (p : Params) (exponents message : List ℕ) (f y : List ℤ) (s : Signature)
-    → (attempt draw p exponents message f y ≡ some s) ↔ PassingMask p f y (draw p (evaluations p y exponents) message) s
+    → (attempt draw p exponents message f y ≡ some s) ↔ PassingMask p f y (draw p (evaluationResidues p y exponents) message) s
 unfolding attempt
 attempt-iff draw p exponents message f y s = (passes-out p f y _ s, passes-in p f y _ s)

@@ -8,15 +8,16 @@ use lib.ListN.{length}
 use Rattle.parameters.specs.declared.Params.{Params}
 use Rattle.parameters.specs.Sound.{Sound}
 use Rattle.polynomial.specs.Polynomial.{sub, star, zOf}
-use Rattle.polynomial.specs.Evaluation.{evaluations}
-use Rattle.polynomial.proofs.EvaluationLaws.{evaluation-mask, evaluation-other-mask}
+use Rattle.polynomial.specs.Evaluation.{evaluations, evaluationResidues}
+use Rattle.polynomial.proofs.EvaluationLaws.{residue-of-mask, evaluation-other-mask}
 use Rattle.scheme.specs.Scheme.{recovered}
 
 module _ {p : Params} (sound : Sound p) (f c y : List ℤ) (size : length f ≡ p .n) where
-  pub recovered-z : (exponents : List ℕ) → recovered p (record { c = c; z = zOf f c y }) exponents (evaluations p f exponents) ≡ evaluations p y exponents
-  unfolding evaluations
+  pub recovered-z : (exponents : List ℕ)
+      → recovered p (record { c = c; z = zOf f c y }) exponents (evaluationResidues p f exponents) ≡ evaluationResidues p y exponents
+  unfolding evaluationResidues
   recovered-z [] = refl
-  recovered-z (j ∷ js) = ap₂ _∷_ (evaluation-mask sound j f c y size) (recovered-z js)
+  recovered-z (j ∷ js) = ap₂ _∷_ (residue-of-mask sound j f c y size) (recovered-z js)
 
   -- the mask with which another key h gives the same point, where the public evaluations are equal
   pub evaluations-other-mask : (h : List ℤ) → length h ≡ p .n → (exponents : List ℕ) → evaluations p h exponents ≡ evaluations p f exponents

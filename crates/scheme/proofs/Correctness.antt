@@ -9,7 +9,7 @@ use lib.IntN.{ℤ}
 use lib.ListN.{length, getD}
 use Rattle.parameters.specs.declared.Params.{Params}
 use Rattle.parameters.specs.Sound.{Sound}
-use Rattle.polynomial.specs.Evaluation.{evaluations}
+use Rattle.polynomial.specs.Evaluation.{evaluationResidues}
 use Rattle.scheme.specs.Scheme.{Drawer, Signed, recovered, signing, verdict}
 use Rattle.scheme.proofs.Within.{within-iff}
 use Rattle.scheme.proofs.Attempt.{attempt-iff}
@@ -19,15 +19,15 @@ use Rattle.scheme.proofs.Verdict.{verdict-true}
 
 pub correctness : (draw : Drawer) {p : Params} → Sound p → (exponents message : List ℕ) (f : List ℤ) (ys : List (List ℤ)) (r : Signed)
     → length f ≡ p .n → signing draw p exponents message 0 f ys ≡ some r
-    → verdict draw p exponents message (evaluations p f exponents) (r .signature) ≡ true
+    → verdict draw p exponents message (evaluationResidues p f exponents) (r .signature) ≡ true
 correctness draw {p} sound exponents message f ys r size accepted =
     let s = r .signature in
     let y = getD ys (r .passedOver) [] in
     let a = attempt-iff draw p exponents message f y s .0 (first-passing draw p exponents message f ys r .0 accepted .passes) in
-    verdict-true draw p exponents message (evaluations p f exponents) s .1 (record {
+    verdict-true draw p exponents message (evaluationResidues p f exponents) s .1 (record {
       range = within-iff (p .k - p .b) (s .z) .0 (a .range);
       challenge =
-          ap (λ (z : List ℤ). draw p (recovered p (record { c = s .c; z = z }) exponents (evaluations p f exponents)) message) (a .is-z)
+          ap (λ (z : List ℤ). draw p (recovered p (record { c = s .c; z = z }) exponents (evaluationResidues p f exponents)) message) (a .is-z)
           ∙ ap (λ (w : List ℕ). draw p w message) (recovered-z sound f (s .c) y size exponents)
           ∙ a .challenge;
     })

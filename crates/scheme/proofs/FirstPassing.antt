@@ -27,7 +27,7 @@ module _ (draw : Drawer) (p : Params) (exponents message : List ℕ) (f : List �
         (λ a. absurd (Option·none-ne-some r (sym (signing-none draw p exponents message f 0 ys a) ∙ e)))
         (first-or-none draw p exponents message f ys),
     λ w. signing-found draw p exponents message f ys (found w)
-        ∙ ap (λ (c : List ℕ). some (record { passedOver = r .passedOver; commitment = c; signature = r .signature })) (w .commits),
+        ∙ ap (λ (c : List ℤ). some (record { passedOver = r .passedOver; commitment = c; signature = r .signature })) (w .commits),
   )
 
   -- signing refuses exactly when every mask fails

@@ -36,5 +36,5 @@ module _ (draw : Drawer) {p : Params} (sound : Sound p) (draws : SparseDrawer dr
       let g = other-gives draw p exponents message h size-h (r .signature) sound draws ternary-h f signer size-f size-y same a in (
         other-only draw p exponents message h size-h (r .signature) (r .commitment) y,
         λ e. subst (SameSigning draw p exponents message h (r .commitment) (r .signature)) (sym e)
-            (subst (λ (c : List ℕ). SameSigning draw p exponents message h c (r .signature) (sub (r .signature .z) (star h (r .signature .c)))) (w .commits) g),
+            (subst (λ (c : List ℤ). SameSigning draw p exponents message h c (r .signature) (sub (r .signature .z) (star h (r .signature .c)))) (w .commits) g),
       )

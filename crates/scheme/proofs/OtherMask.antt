@@ -13,8 +13,9 @@ use Rattle.algebra.specs.Integer.{within}
 use Rattle.parameters.specs.declared.Params.{Params}
 use Rattle.parameters.specs.Sound.{Sound}
 use Rattle.polynomial.specs.Polynomial.{sub, star, ternary}
-use Rattle.polynomial.specs.Evaluation.{evaluations}
+use Rattle.polynomial.specs.Evaluation.{evaluations, evaluationResidues}
 use Rattle.polynomial.proofs.Linear.{length-star, length-sub, length-z, add-of-sub, sub-of-add}
+use Rattle.polynomial.proofs.SignedForm.{same-residues}
 use Rattle.polynomial.proofs.Bound.{within-mono, within-sub, within-star}
 use Rattle.scheme.specs.Scheme.{Drawer, Signature, SparseDrawer}
 use Rattle.scheme.specs.Hiding.{SameSigning}
@@ -26,7 +27,7 @@ abbrev other : List ℤ → Signature → List ℤ
 other h s = sub (s .z) (star h (s .c))
 
 module _ (draw : Drawer) (p : Params) (exponents message : List ℕ) (h : List ℤ) (size-h : length h ≡ p .n) (s : Signature) where
-  pub other-only : (w : List ℕ) (y : List ℤ) → SameSigning draw p exponents message h w s y → y ≡ other h s
+  pub other-only : (w y : List ℤ) → SameSigning draw p exponents message h w s y → y ≡ other h s
   other-only w y g =
       let a = attempt-iff draw p exponents message h y s .0 (first-passing draw p exponents message h (y ∷ []) _ .0 (g .signs) .passes) in
       sym (sub-of-add (star h (s .c)) y (omega (arith, length-star h (s .c), size-h, g .size)))
@@ -34,7 +35,7 @@ module _ (draw : Drawer) (p : Params) (exponents message : List ℕ) (h : List �
 
   -- the mask y passes with the key f, whose public evaluations are those of h
   module _ (sound : Sound p) (draws : SparseDrawer draw p) (ternary-h : T (ternary h)) (f y : List ℤ) (size-f : length f ≡ p .n) (size-y : length y ≡ p .n)
-      (same : evaluations p h exponents ≡ evaluations p f exponents) (a : PassingMask p f y (draw p (evaluations p y exponents) message) s) where
+      (same : evaluations p h exponents ≡ evaluations p f exponents) (a : PassingMask p f y (draw p (evaluationResidues p y exponents) message) s) where
     size-z : length (s .z) ≡ p .n
     size-z = ap length (a .is-z) ∙ length-z f (s .c) y (le-of-eq (size-f ∙ sym size-y)) ∙ size-y
 
@@ -45,16 +46,17 @@ module _ (draw : Drawer) (p : Params) (exponents message : List ℕ) (h : List �
     other-small =
         within-mono (omega (arith, sound .room)) (other h s)
         (within-sub (p .k - p .b) (p .b) (s .z) (star h (s .c)) (a .range)
-        (within-mono (le-of-eq (draws (evaluations p y exponents) message (s .c) (a .challenge) .full)) (star h (s .c)) (within-star h (s .c) ternary-h)))
+        (within-mono (le-of-eq (draws (evaluationResidues p y exponents) message (s .c) (a .challenge) .full)) (star h (s .c))
+        (within-star h (s .c) ternary-h)))
 
     other-commits : evaluations p (other h s) exponents ≡ evaluations p y exponents
     other-commits =
         ap (λ (z : List ℤ). evaluations p (sub z (star h (s .c))) exponents) (a .is-z)
         ∙ evaluations-other-mask sound f (s .c) y size-f h size-h exponents same
 
-    other-passes : PassingMask p h (other h s) (draw p (evaluations p (other h s) exponents) message) s
+    other-passes : PassingMask p h (other h s) (draw p (evaluationResidues p (other h s) exponents) message) s
     other-passes = record {
-      challenge = ap (λ (w : List ℕ). draw p w message) other-commits ∙ a .challenge;
+      challenge = ap (λ (w : List ℕ). draw p w message) (same-residues sound (other h s) y exponents other-commits) ∙ a .challenge;
       is-z = sym (add-of-sub (star h (s .c)) (s .z) short);
       range = a .range;
     }

@@ -12,9 +12,9 @@ use Rattle.algebra.specs.Integer.{residue, within}
 use Rattle.parameters.specs.declared.Params.{Params}
 use Rattle.polynomial.specs.Polynomial.{zOf}
 use Rattle.polynomial.specs.Sparse.{Sparse}
-use Rattle.polynomial.specs.Evaluation.{evaluations}
+use Rattle.polynomial.specs.Evaluation.{evaluations, evaluationResidues}
 
--- a way to draw: of a set, a commitment and a message a challenge, or none where the pool is spent
+-- a way to draw: of a set, a commitment in 0..q-1 and a message a challenge, or none where the pool is spent
 abbrev pub Drawer : Type 0
 Drawer = Params → List ℕ → List ℕ → Option (List ℤ)
 
@@ -30,7 +30,7 @@ pub record Signature : Type 0 where
 -- an accepted signing: the number of masks passed over, the commitment of the mask that signed, and the signature
 pub record Signed : Type 0 where
   pub passedOver : ℕ
-  pub commitment : List ℕ
+  pub commitment : List ℤ
   pub signature : Signature
 
 -- the signature with challenge c, key f and mask y, where all of z = f ⋆ c + y is in -(k-b)..(k-b)
@@ -43,7 +43,7 @@ withChallenge p f y none = none
 withChallenge p f y (some c) = signatureInRange p f y c
 
 -- the signing by a mask that passes, n masks passed over before it; else what the masks after it give
-abbrev pub orElse : ℕ → List ℕ → Option Signature → Option Signed → Option Signed
+abbrev pub orElse : ℕ → List ℤ → Option Signature → Option Signed → Option Signed
 orElse n w (some s) rest = some (record { passedOver = n; commitment = w; signature = s })
 orElse n w none rest = rest
 
@@ -54,9 +54,9 @@ differences q (z ∷ zs) [] cs = []
 differences q (z ∷ zs) (v ∷ vs) [] = []
 differences q (z ∷ zs) (v ∷ vs) (c ∷ cs) = residue (pos z -ℤ pos (v * c)) q ∷ differences q zs vs cs
 
--- a commitment from the check's side: at each point z's evaluation minus the product of the public and the challenge's evaluation
+-- a commitment from the check's side, in 0..q-1: at each point z's evaluation minus the product of the public and the challenge's evaluation
 abbrev pub recovered : Params → Signature → List ℕ → List ℕ → List ℕ
-recovered p s exponents vs = differences (p .q) (evaluations p (s .z) exponents) vs (evaluations p (s .c) exponents)
+recovered p s exponents vs = differences (p .q) (evaluationResidues p (s .z) exponents) vs (evaluationResidues p (s .c) exponents)
 
 -- integers and polynomials are equal
 abbrev pub equalℤ : ℤ → ℤ → Bool
@@ -79,13 +79,13 @@ isDrawn (some d) c = equal d c
 module _ (draw : Drawer) (p : Params) (exponents message : List ℕ) where
   -- what the mask y gives with the key f: a signature if it passes
   unfoldable pub attempt : List ℤ → List ℤ → Option Signature
-  attempt f y = withChallenge p f y (draw p (evaluations p y exponents) message)
+  attempt f y = withChallenge p f y (draw p (evaluationResidues p y exponents) message)
 
   -- the masks in order, n passed over before them; the first that passes signs
   abbrev pub signing : ℕ → List ℤ → List (List ℤ) → Option Signed
   signing n f [] = none
   signing n f (y ∷ ys) = orElse n (evaluations p y exponents) (attempt f y) (signing (suc n) f ys)
 
-  -- the check of a signature against public evaluations: z in range, and the challenge of the recovered commitment is the given one
+  -- the check of a signature against public evaluations in 0..q-1: z in range, and the challenge of the recovered commitment is the given one
   unfoldable pub verdict : List ℕ → Signature → Bool
   verdict vs s = within (p .k - p .b) (s .z) && isDrawn (draw p (recovered p s exponents vs) message) (s .c)

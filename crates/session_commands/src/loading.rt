@@ -139,7 +139,7 @@ pub fn load_evaluations(
     plain(0, with_evaluations)
 }
 
-// 03.
+// 03. The evaluations are held in 0..q-1.
 pub fn load_key(
     p: Params,
     flags: Flags,
@@ -159,6 +159,7 @@ pub fn load_key(
     }
     let n = p.n;
     let t = p.t;
+    let q = p.q;
     let ring = ring_of(flags.set);
     let powers = ring.powers;
     key_evaluations(p, &powers, operand, &exponents[..t], &mut evaluations[..t]);
@@ -169,7 +170,7 @@ pub fn load_key(
     CommandResult {
         number: 0,
         flags: next,
-        added: Added::Values(t),
+        added: Added::Values(t, q),
     }
 }
 

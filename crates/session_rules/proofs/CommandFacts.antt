@@ -5,7 +5,7 @@ use mathlib.Core.Path.{_≡_, refl, sym, ap, _∙_}
 use mathlib.Core.Bool.{Bool, true, false, not, _&&_, true≢false, cond}
 use mathlib.Core.List.{List, [], _∷_, _++_, map}
 use mathlib.Core.Option.{Option, some}
-use Prim.Native.Nat.{ℕ, suc, _+_, _*_, _≤_, _<_}
+use Prim.Native.Nat.{ℕ, suc, _+_, _*_, _/_, _≤_, _<_}
 use native.Mathlib.Omega.{arith}
 use lib.Dec.{T, leb, eqb}
 use lib.IntN.{ℤ}
@@ -17,7 +17,8 @@ use Rattle.algebra.proofs.Test.{holds-true, true-holds, cond-by, by-test}
 use Rattle.algebra.specs.Integer.{within}
 use Rattle.parameters.specs.declared.Params.{Params}
 use Rattle.parameters.specs.Sets.{isSet}
-use Rattle.polynomial.proofs.EvaluationLaws.{length-evaluations, evaluations-below}
+use Rattle.polynomial.proofs.EvaluationLaws.{length-evaluations, length-evaluation-residues, evaluation-residues-below}
+use Rattle.polynomial.proofs.SignedForm.{evaluations-within}
 use Rattle.encoding.specs.Bytes.{numbers, signed16}
 use Rattle.encoding.specs.Challenge.{areEntries}
 use Rattle.encoding.specs.Encoding.{isKeyByte, keyCoefficient, areExponents, areEvaluations, entriesIn}
@@ -32,10 +33,11 @@ use Rattle.checking.specs.Check.{bodyRead, verdictAfter}
 use Rattle.passign.specs.Hiding.{ourLibrary}
 use Rattle.passign.proofs.SignatureSize.{entry-signature-size}
 use Rattle.text.specs.Text.{decimal, hex, spaced}
-use Rattle.text.proofs.Text.{length-decimal, length-hex, length-spaced-numbers}
+use Rattle.text.proofs.Text.{length-decimal, length-hex, length-spaced-integers}
 use Rattle.session_rules.specs.Held.{Chosen, paramsOf, Held, isHeld, given, withMasks}
 use Rattle.session_rules.specs.CommandTable.{commandTable, commandOf, forLoading, forSigning, forChecking}
-use Rattle.session_rules.specs.Commands.{Payload, nothing, signed, judged, Result, accepted, refused, keyEvaluations, maskOf, commandIn, command}
+use Rattle.session_rules.specs.Commands.{Payload, nothing, signed, judged, Result, accepted, refused}
+use Rattle.session_rules.specs.Commands.{keyEvaluations, keyResidues, maskOf, commandIn, command}
 use Rattle.session_rules.specs.Commands.{chooseSet, loadExponents, loadKey, loadMask, loadMessage, loadEvaluations}
 use Rattle.session_rules.specs.Commands.{afterSigning, callSigning, sign, afterCheck, check}
 use Rattle.session_rules.specs.Rows.{payloadText}
@@ -79,7 +81,7 @@ pub record RefusalFacts (h : Held) (ended : Bool) (d : Result) : Type 0 where
   pub ends : ended ≡ isEnding (d .number)
 
 -- what is held after a command is what is read, a 06 signs with the material or finds that no mask passes, an accepted 00 alone ends the session, and the
--- row has room: fewer than 1,153 evaluations of eleven bytes each, or a signature of at most 2,435 bytes in hex
+-- row has room: fewer than 1,153 evaluations of twelve bytes each, or a signature of at most 2,435 bytes in hex
 pub record CommandFacts (m : Material) (a : Available) (h : Held) (b : ℕ) (op : List ℕ) (ended : Bool) (d : Result) : Type 0 where
   pub keeps : KeptAll (withCommand m (played b op (d .number))) (availableWith m a (played b op (d .number))) (d .held)
   pub signs : b ≡ 6 → d .number ≡ 0 → SignedWith m (d .payload)
@@ -87,7 +89,7 @@ pub record CommandFacts (m : Material) (a : Available) (h : Held) (b : ℕ) (op 
   pub judges : b ≡ 7 → d .number ≡ 0 → d .payload ≡ judged (cond (holdsOf m a op) 1 0)
   pub refusal : (d .number ≡ 0 → ⊥) → RefusalFacts h ended d
   pub accepted-ends : d .number ≡ 0 → ended ≡ eqb b 0
-  pub short : length (payloadText (d .payload)) ≤ 12700
+  pub short : length (payloadText (d .payload)) ≤ 13900
 
 module _ (m : Material) (a : Available) (h : Held) (w : KeptAll m a h) (op : List ℕ) where
   -- a refusal other than 9 leaves all as it was
@@ -105,7 +107,7 @@ module _ (m : Material) (a : Available) (h : Held) (w : KeptAll m a h) (op : Lis
 
   -- an accepted command other than 06 and 07
   pub accepted-facts : (b : ℕ) {ended : Bool} {next : Held} {x : Payload} → eqb b 6 ≡ false → eqb b 7 ≡ false → ended ≡ eqb b 0
-      → length (payloadText x) ≤ 12700
+      → length (payloadText x) ≤ 13900
       → KeptAll (withCommand m (played b op 0)) (availableWith m a (played b op 0)) next → CommandFacts m a h b op ended (accepted next x)
   accepted-facts b other seventh ends short keeps = record {
     keeps = keeps;
@@ -154,14 +156,19 @@ module _ (m : Material) (a : Available) (h : Held) (w : KeptAll m a h) (op : Lis
     unfolding loadKey withCommand withAccepted availableWith availableWithAccepted
     key-facts j size =
         let (same, tested) = needed (w .exponents) j in
-        let vs = keyEvaluations p (given (h .exponents)) op in
-        let count = length-evaluations p (map keyCoefficient op) (given (h .exponents)) ∙ tested .size in
-        let below = evaluations-below (sound s) (map keyCoefficient op) (given (h .exponents)) in
+        let f = map keyCoefficient op in
+        let js = given (h .exponents) in
+        let es = keyEvaluations p js op in
+        let vs = keyResidues p js op in
+        let count = length-evaluation-residues p f js ∙ tested .size in
+        let below = evaluation-residues-below (sound s) f js in
+        let few = length-evaluations p f js ∙ tested .size in
+        let text = length-spaced-integers (p .q / 2) es (omega (arith, fitting s .modulus)) (evaluations-within (sound s) f js) in
         unless 3 5 refl refl refl (all isKeyByte op)
         (λ e. accepted-facts 3 refl refl refl
-        (omega (arith, length-spaced-numbers (p .q) vs (omega (arith, fitting s .modulus)) below, count, fitting s .exponents, fitting s .size))
+        (omega (arith, text, few, fitting s .exponents, fitting s .size))
         (keep-evaluations (keep-key w op (kept (record { size = size; bytes = e }))) _
-        (kept-as (ap (λ (l : List ℕ). keyEvaluations p l op) same) (record { size = count; below = holds-true (areEvaluations p vs) below }))))
+        (kept-as (ap (λ (l : List ℕ). keyResidues p l op) same) (record { size = count; below = holds-true (areEvaluations p vs) below }))))
 
     mask-facts : Facts 4 (loadMask c h op)
     unfolding loadMask withCommand withAccepted availableWith availableWithAccepted

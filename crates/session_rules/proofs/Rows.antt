@@ -12,12 +12,12 @@ use Rattle.algebra.specs.All.{all, areBelow}
 use Rattle.algebra.proofs.Test.{and-left, and-right, by-test}
 use Rattle.text.specs.Text.{decimal, hexDigit, hex, spaced}
 use Rattle.text.proofs.Text.{length-decimal, length-hex, isVisible, visible-decimal, visible-digit, visible-hex}
-use Rattle.text.proofs.Text.{isInside, inside, inside-append, inside-numbers}
+use Rattle.text.proofs.Text.{isInside, inside, inside-append, inside-integers}
 use Rattle.session_rules.specs.Commands.{Payload, nothing, values, signed, judged}
 use Rattle.session_rules.specs.Rows.{payloadText, rowText, rowSize}
 use Rattle.session_rules.specs.Plays.{afterSpace, hexValue, unhex, printedSignature}
 
-pub length-row : (ordinal byte number : ℕ) (x : Payload) → length (payloadText x) ≤ 12700 → length (rowText ordinal byte number x) ≤ 16384
+pub length-row : (ordinal byte number : ℕ) (x : Payload) → length (payloadText x) ≤ 13900 → length (rowText ordinal byte number x) ≤ 16384
 unfolding rowText
 length-row ordinal byte number x h =
     simp length-append (omega (arith, length-decimal ordinal, length-hex (byte ∷ []), length-decimal number))
@@ -26,7 +26,7 @@ length-row ordinal byte number x h =
 
 pub inside-payload : (x : Payload) → T (all isInside (payloadText x))
 inside-payload nothing = tt
-inside-payload (values vs) = inside-numbers vs
+inside-payload (values es) = inside-integers es
 inside-payload (signed i bytes) =
     inside-append (spaced (decimal i)) (spaced (hex bytes)) (inside (decimal i) (visible-decimal i)) (inside (hex bytes) (visible-hex bytes))
 inside-payload (judged v) = inside (decimal v) (visible-decimal v)

@@ -9,9 +9,9 @@ use lib.Dec.{T}
 use lib.ListN.{length}
 use Rattle.algebra.specs.All.{all}
 use Rattle.parameters.specs.Sets.{sets, setOf}
-use Rattle.polynomial.specs.Evaluation.{evaluation, evaluations}
+use Rattle.polynomial.specs.Evaluation.{evaluation, evaluationResidue, evaluations, evaluationResidues}
 use Rattle.encoding.specs.Bytes.{numbers}
-use Rattle.text.specs.Text.{digits, hex, spacedNumbers}
+use Rattle.text.specs.Text.{digits, signedDecimal, hex, spacedIntegers}
 use Rattle.session_rules.specs.CommandTable.{commandTable, isKnown, commandOf}
 use Rattle.session_rules.specs.Commands.{commandIn, command, chooseSet, loadExponents, loadKey, loadMask}
 use Rattle.session_rules.specs.Rows.{rowText, atFront}
@@ -24,7 +24,8 @@ use Rattle.session_rules.proofs.RightPlays.{StepRows, rows-played}
 -- what is computed
 computed : StepRows document opened transcript
 unfolding document transcript opened step commandStep refusalDue isTagged commandTable isKnown commandOf
-    command commandIn chooseSet loadExponents loadKey loadMask setOf sets numbers evaluations evaluation rowText digits hex spacedNumbers
+    command commandIn chooseSet loadExponents loadKey loadMask setOf sets numbers evaluations evaluation evaluationResidues evaluationResidue
+    rowText digits signedDecimal hex spacedIntegers
 computed = (refl, (refl, (refl, (refl, (refl, (refl, (refl, (refl, (refl, (refl, (refl, (refl, (refl, (refl, refl))))))))))))))
 
 pub transcript-of-document : (buffers : List (List ℕ)) → length buffers ≡ 7 → T (all isRight buffers)

@@ -12,7 +12,7 @@ use Rattle.algebra.specs.All.{all}
 use Rattle.algebra.specs.Integer.{within}
 use Rattle.parameters.specs.declared.Params.{Params}
 use Rattle.parameters.specs.Sets.{isSet, setOf}
-use Rattle.polynomial.specs.Evaluation.{evaluations}
+use Rattle.polynomial.specs.Evaluation.{evaluations, evaluationResidues}
 use Rattle.encoding.specs.Bytes.{numbers, signed16}
 use Rattle.encoding.specs.Encoding.{isKeyByte, keyCoefficient, areExponents, areEvaluations, publicKey, signatureSize}
 use Rattle.refusal.specs.Numbers.{wrongSet, noSet, wrongExponents, wrongKey, wrongMask, wrongEvaluation, tooManyMasks, nonePasses, notHeld}
@@ -25,10 +25,10 @@ use Rattle.checking.specs.Check.{checkAnswer}
 use Rattle.session_rules.specs.Held.{Chosen, Held, given, onlySet, withExponents, withKey, withEvaluations, withMasks, withMessage}
 use Rattle.session_rules.specs.CommandTable.{commandOf}
 
--- what an accepted command adds to its row: nothing; the evaluations (03); the number passed over and the signature (06); 1 or 0 (07)
+-- what an accepted command adds to its row: nothing; the evaluations in signed form (03); the number passed over and the signature (06); 1 or 0 (07)
 pub data Payload : Type 0 where
   nothing : Payload
-  values : List ℕ → Payload
+  values : List ℤ → Payload
   signed : ℕ → List ℕ → Payload
   judged : ℕ → Payload
 
@@ -51,9 +51,12 @@ chooseSet h op =
     cond (not (isSet (getD op 0 0))) (refused wrongSet h)
     (accepted (onlySet (some (record { byte = getD op 0 0; params = setOf (getD op 0 0) }))) nothing)
 
--- the public evaluations of a key of N bytes at the points
-abbrev pub keyEvaluations : Params → List ℕ → List ℕ → List ℕ
+-- the public evaluations of a key of N bytes at the points, and the same in 0..q-1
+abbrev pub keyEvaluations : Params → List ℕ → List ℕ → List ℤ
 keyEvaluations p exponents key = evaluations p (map keyCoefficient key) exponents
+
+abbrev pub keyResidues : Params → List ℕ → List ℕ → List ℕ
+keyResidues p exponents key = evaluationResidues p (map keyCoefficient key) exponents
 
 -- a mask of N times two bytes
 abbrev pub maskOf : Params → List ℕ → List ℤ
@@ -71,11 +74,11 @@ module _ (c : Chosen) (h : Held) where
       cond (not (areExponents (c .params) (numbers 2 (c .params .t) op))) (refused wrongExponents h)
       (accepted (withEvaluations (withKey (withExponents h (some (numbers 2 (c .params .t) op))) none) none) nothing)
 
-  -- 03: key, N bytes. Works out its public evaluations
+  -- 03: key, N bytes. Works out its public evaluations: held in 0..q-1, as 08 gives them, and printed in signed form
   unfoldable pub loadKey : List ℕ → Result
   loadKey op =
       cond (not (all isKeyByte op)) (refused wrongKey h)
-      (accepted (withEvaluations (withKey h (some op)) (some (keyEvaluations (c .params) (given (h .exponents)) op)))
+      (accepted (withEvaluations (withKey h (some op)) (some (keyResidues (c .params) (given (h .exponents)) op)))
       (values (keyEvaluations (c .params) (given (h .exponents)) op)))
 
   -- 04: mask, N times two bytes, held after the others; at most eight

@@ -9,7 +9,7 @@ use Prim.Native.Nat.{ℕ}
 use lib.Dec.{eqb}
 use Rattle.encoding.specs.Bytes.{numbers}
 use Rattle.session_rules.specs.Held.{Chosen, Held}
-use Rattle.session_rules.specs.Commands.{keyEvaluations}
+use Rattle.session_rules.specs.Commands.{keyResidues}
 use Rattle.session_rules.specs.Plays.{Event, Material, noMaterial, paramsIn, withCommand}
 
 -- the material after more commands
@@ -59,7 +59,7 @@ unfoldable pub availableWithAccepted : Material → Available → ℕ → List �
 availableWithAccepted m a b op =
     cond (eqb b 0x01) (setAlone a)
     (cond (eqb b 0x02) (setEvaluations (setKey (setExponents a true) false) false (a .values))
-    (cond (eqb b 0x03) (setEvaluations (setKey a true) true (keyEvaluations (paramsIn m) (m .exponents) op))
+    (cond (eqb b 0x03) (setEvaluations (setKey a true) true (keyResidues (paramsIn m) (m .exponents) op))
     (cond (eqb b 0x05) (setMessage a true)
     (cond (eqb b 0x08) (setEvaluations (setKey a false) true (numbers 3 (paramsIn m .t) op))
     a))))

@@ -5,12 +5,12 @@ use Prim.Native.Nat.{ℕ, suc}
 use lib.Dec.{eqb}
 use lib.ListN.{length, drop}
 use mathlib.Core.Bool.{cond}
-use Rattle.text.specs.Text.{decimal, hex, spaced, spacedNumbers, lineFeed}
+use Rattle.text.specs.Text.{decimal, hex, spaced, spacedIntegers, lineFeed}
 use Rattle.session_rules.specs.Commands.{Payload, nothing, values, signed, judged}
 
 abbrev pub payloadText : Payload → List ℕ
 payloadText nothing = []
-payloadText (values vs) = spacedNumbers vs
+payloadText (values es) = spacedIntegers es
 payloadText (signed i bytes) = spaced (decimal i) ++ spaced (hex bytes)
 payloadText (judged v) = spaced (decimal v)
 

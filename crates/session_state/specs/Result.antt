@@ -1,9 +1,10 @@
 -- What the result of a command means, with the lists after it.
 -- Assumes nothing.
-use mathlib.Core.List.{List}
+use mathlib.Core.List.{List, map}
 use Prim.Native.Nat.{ℕ}
 use lib.IntN.{ℤ}
 use lib.ListN.{take}
+use Rattle.algebra.specs.Integer.{centre}
 use Rattle.parameters.specs.declared.Params.{Params}
 use Rattle.session_rules.specs.Commands.{Payload, nothing, values, signed, judged, Result}
 use Rattle.session_state.specs.declared.Added.{Added}
@@ -11,10 +12,10 @@ use Rattle.session_state.specs.declared.Added.the-variants as added
 use Rattle.session_state.specs.declared.CommandResult.{CommandResult}
 use Rattle.session_state.specs.State.{heldIn, heldOf}
 
--- what a row adds, from the lists of evaluations and signature bytes
+-- what a row adds, from the lists of evaluations, which stand in 0..q-1, and signature bytes
 abbrev pub payloadOf : Added → List ℕ → List ℕ → Payload
 payloadOf added.Nothing v s = nothing
-payloadOf (added.Values n) v s = values (take n v)
+payloadOf (added.Values n q) v s = values (map (λ (r : ℕ). centre r q) (take n v))
 payloadOf (added.Signed i n) v s = signed i (take n s)
 payloadOf (added.Judged x) v s = judged x
 

@@ -27,11 +27,11 @@ pub struct Flags {
     pub count: usize,
 }
 
-// What an accepted command adds to its row; the lists stand in the arrays beside it, in front: so many evaluations; the number of masks passed over
-// and so many bytes of a signature; a verdict, 1 or 0.
+// What an accepted command adds to its row; the lists stand in the arrays beside it, in front: so many evaluations, with the modulus by which a row has
+// their signed form; the number of masks passed over and so many bytes of a signature; a verdict, 1 or 0.
 pub enum Added {
     Nothing,
-    Values(usize),
+    Values(usize, u32),
     Signed(u8, usize),
     Judged(u8),
 }

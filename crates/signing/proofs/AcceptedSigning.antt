@@ -10,7 +10,7 @@ use lib.Dec.{eqb}
 use lib.IntN.{ℤ}
 use lib.ListN.{length, getD}
 use Rattle.parameters.specs.declared.Params.{Params}
-use Rattle.polynomial.specs.Evaluation.{evaluations}
+use Rattle.polynomial.specs.Evaluation.{evaluations, evaluationResidues}
 use Rattle.encoding.specs.Encoding.{keyOf}
 use Rattle.scheme.specs.Scheme.{Drawer, Signed, signing}
 use Rattle.scheme.specs.FirstPassing.{FirstPassing}
@@ -82,7 +82,7 @@ module _ {draw : Drawer} {p : Params} {key exponents : List ℕ} {masks : List �
   mask-of : getD (masksOf p masks) (r .passedOver) [] ≡ maskAt p masks i
   mask-of = ap (λ (j : ℕ). getD (masksOf p masks) j []) (a .place) ∙ mask-at p masks i offered
 
-  pub passes-of : PassingMask p (keyOf key) (maskAt p masks i) (draw p (evaluations p (maskAt p masks i) exponents) message) (r .signature)
+  pub passes-of : PassingMask p (keyOf key) (maskAt p masks i) (draw p (evaluationResidues p (maskAt p masks i) exponents) message) (r .signature)
   passes-of =
       let y = getD (masksOf p masks) (r .passedOver) [] in
       rw mask-of at (attempt-iff draw p exponents message (keyOf key) y (r .signature) .0 (first-of .passes))

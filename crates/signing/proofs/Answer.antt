@@ -11,7 +11,7 @@ use Rattle.algebra.specs.Integer.{within}
 use Rattle.parameters.specs.declared.Params.{Params}
 use Rattle.polynomial.specs.Polynomial.{zOf}
 use Rattle.polynomial.specs.Sparse.{Sparse}
-use Rattle.polynomial.specs.Evaluation.{evaluations}
+use Rattle.polynomial.specs.Evaluation.{evaluationResidues}
 use Rattle.challenge.specs.declared.Drawn.{Drawn}
 use Rattle.challenge.specs.Draw.{drawChallenge, drawnOf}
 use Rattle.challenge.proofs.Challenge.{challenge-sparse}
@@ -31,8 +31,8 @@ module _ {s : ℕ} {a : Option Signature} {before : List ℕ} where
 
 -- the drawer's answer d for the commitment w of the mask y
 module _ (p : Params) (exponents message : List ℕ) (f y : List ℤ) (d : Drawn) {w : List ℕ}
-    (e : drawnOf p d ≡ drawChallenge p w message) (g : w ≡ evaluations p y exponents) where
-  answer : {t : Bool} → d .complete ≡ t → drawChallenge p (evaluations p y exponents) message ≡ cond t (some (take (p .n) (d .challenge))) none
+    (e : drawnOf p d ≡ drawChallenge p w message) (g : w ≡ evaluationResidues p y exponents) where
+  answer : {t : Bool} → d .complete ≡ t → drawChallenge p (evaluationResidues p y exponents) message ≡ cond t (some (take (p .n) (d .challenge))) none
   answer c =
       ap (λ (v : List ℕ). drawChallenge p v message) (sym g) ∙ sym e
       ∙ ap (λ (b : Bool). cond b (some (take (p .n) (d .challenge))) none) c
@@ -43,7 +43,7 @@ module _ (p : Params) (exponents message : List ℕ) (f y : List ℤ) (d : Drawn
   attempt-is c = ap (withChallenge p f y) (answer c)
 
   pub drawn-sparse : d .complete ≡ true → Sparse p (take (p .n) (d .challenge))
-  drawn-sparse c = challenge-sparse p (evaluations p y exponents) message (take (p .n) (d .challenge)) (answer c)
+  drawn-sparse c = challenge-sparse p (evaluationResidues p y exponents) message (take (p .n) (d .challenge)) (answer c)
 
 -- the point z of a challenge c, in range or not
 pub in-range-is : (p : Params) (f y c : List ℤ) {z : List ℤ} {t : Bool} → z ≡ zOf f c y → t ≡ within (p .k - p .b) z

@@ -18,7 +18,7 @@ use Rattle.scheme.specs.Scheme.{Drawer, Signature, Signed, orElse, attempt, sig
 use Rattle.signing.specs.Signer.{offeredCount, maskAt, signedBy, Offered, Attempted}
 
 -- one mask, where i were passed over before it and those after it give `rest`: it signs, or they do
-module _ (i : ℕ) (w : List ℕ) (rest : Option Signed) {s : ℕ} {before after : List ℕ} where
+module _ (i : ℕ) (w : List ℤ) (rest : Option Signed) {s : ℕ} {before after : List ℕ} where
   passing : (o : Option Signature) {passed : Bool} (count : ℕ) → Attempted s o before passed after → passed ≡ true
       → Offered s count (orElse i w o rest) before i after
   passing none count t e = let z : _≡_ {A = ℕ} 0 1 = cc in absurd (omega arith)
@@ -68,7 +68,7 @@ module _ (draw : Drawer) (p : Params) (f : List ℤ) (exponents : List ℕ) (mas
   -- mask number i is tried
   module _ (i : ℕ) (h : i < offeredCount p masks) (e : signedBy draw p f exponents masks message ≡ signedFrom i) where
     -- the commitment of the mask, and what the masks after it give
-    abbrev w : List ℕ
+    abbrev w : List ℤ
     w = evaluations p (maskAt p masks i) exponents
 
     abbrev later : Option Signed

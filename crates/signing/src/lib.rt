@@ -29,7 +29,7 @@ use parameters::MAX_N;
 use parameters::MAX_T;
 use parameters::Params;
 use parameters::ring_of;
-use polynomial::evaluation::evaluate;
+use polynomial::evaluation::evaluate_residues;
 use polynomial::product::in_range;
 use polynomial::product::in_range16;
 use polynomial::product::z_of;
@@ -92,7 +92,7 @@ fn sign_with_mask(
     let n = p.n;
     let t = p.t;
     let mut commitment = [0u32; MAX_T];
-    evaluate(p, powers, y, exponents, &mut commitment[..t]);
+    evaluate_residues(p, powers, y, exponents, &mut commitment[..t]);
     let drawn = challenge_of(p, &commitment[..t], message);
     if !drawn.complete {
         return false;

@@ -30,7 +30,7 @@ appended-then {old} {mid} {new} {a} {b} {at} {r} {s} p q = record {
 }
 
 -- the text of one element more of a list, whose text is that of its elements one behind another
-module _ (text : List ℕ → List ℕ) (joins : (xs ys : List ℕ) → text (xs ++ ys) ≡ text xs ++ text ys) where
-  pub appended-more : {old mid new : List ℕ} {at r s : ℕ} (l : List ℕ) (i : ℕ) → i < length l
-      → Appended old at (text (take i l)) mid r → Appended mid r (text (getD l i 0 ∷ [])) new s → Appended old at (text (take (i + 1) l)) new s
-  appended-more l i h p q = rw (add-one, take-suc l i 0 h, joins) (appended-then p q)
+module _ {A : Type 0} (text : List A → List ℕ) (joins : (xs ys : List A) → text (xs ++ ys) ≡ text xs ++ text ys) where
+  pub appended-more : {old mid new : List ℕ} {at r s : ℕ} (l : List A) (i : ℕ) (d : A) → i < length l
+      → Appended old at (text (take i l)) mid r → Appended mid r (text (getD l i d ∷ [])) new s → Appended old at (text (take (i + 1) l)) new s
+  appended-more l i d h p q = rw (add-one, take-suc l i d h, joins) (appended-then p q)

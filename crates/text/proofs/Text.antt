@@ -6,13 +6,15 @@ use mathlib.Core.List.{List, [], _∷_, _++_, append-assoc, append-nil}
 use Prim.Native.Nat.{ℕ, zero, suc, _+_, _-_, _*_, _^_, _/_, _%_, _≤_, _<_}
 use native.Mathlib.Nat.{div-lt-iff-lt-mul, pow-suc, zero-lt-suc}
 use native.Mathlib.Omega.{arith}
-use lib.Dec.{T, ltb, ltb→lt, lt→ltb}
+use lib.Dec.{T, ltb, leb, ltb→lt, lt→ltb, leb→le}
+use lib.IntN.{ℤ, pos, negsuc, natAbs}
 use lib.ListN.{length, length-append}
 use borrow.Author.Tests.{lt-ltb, le-ltb}
-use Rattle.algebra.specs.All.{all, areBelow}
+use Rattle.algebra.specs.All.{all}
+use Rattle.algebra.specs.Integer.{within}
 use Rattle.algebra.proofs.All.{all-append, all-weaker}
 use Rattle.algebra.proofs.Test.{and-left, and-right, and-intro, cond-by, by-test}
-use Rattle.text.specs.Text.{digits, decimal, hexDigit, hex, spaced, spacedNumbers}
+use Rattle.text.specs.Text.{minusSign, digits, decimal, signedDecimal, hexDigit, hex, spaced, spacedIntegers}
 
 -- ---- decimal digits, by the tests that the code makes
 
@@ -40,6 +42,15 @@ digits-enough (suc m) (suc more) n l h =
     let fewer : n / 10 < 10 ^ suc m = div-lt-iff-lt-mul (zero-lt-suc 9) .1 (rw (pow-suc 10 (suc m)) at h) in
     by-test (ltb n 10) (λ t. rw t) (λ t. rw (t, digits-enough m more (n / 10) (omega arith) fewer))
 
+-- an integer of at most ten digits
+pub integer-natural : (n : ℕ) → n < 10 ^ 10 → signedDecimal (pos n) ≡ digits 9 n
+unfolding signedDecimal
+integer-natural n h = digits-enough 9 19 n (omega arith) h
+
+pub integer-negative : (n : ℕ) → suc n < 10 ^ 10 → signedDecimal (negsuc n) ≡ minusSign ∷ digits 9 (suc n)
+unfolding signedDecimal
+integer-negative n h = rw (digits-enough 9 19 (suc n) (omega arith) h)
+
 -- ---- the texts of lists
 
 pub hex-append : (xs ys : List ℕ) → hex (xs ++ ys) ≡ hex xs ++ hex ys
@@ -47,14 +58,14 @@ unfolding hex
 hex-append [] ys = refl
 hex-append (x ∷ xs) ys = rw (hex-append xs ys)
 
-pub numbers-append : (xs ys : List ℕ) → spacedNumbers (xs ++ ys) ≡ spacedNumbers xs ++ spacedNumbers ys
-unfolding spacedNumbers
-numbers-append [] ys = refl
-numbers-append (x ∷ xs) ys = rw (numbers-append xs ys, append-assoc)
+pub integers-append : (xs ys : List ℤ) → spacedIntegers (xs ++ ys) ≡ spacedIntegers xs ++ spacedIntegers ys
+unfolding spacedIntegers
+integers-append [] ys = refl
+integers-append (x ∷ xs) ys = rw (integers-append xs ys, append-assoc)
 
-pub one-number : (n : ℕ) → spacedNumbers (n ∷ []) ≡ spaced (decimal n)
-unfolding spacedNumbers
-one-number n = rw append-nil
+pub one-integer : (e : ℤ) → spacedIntegers (e ∷ []) ≡ spaced (signedDecimal e)
+unfolding spacedIntegers
+one-integer e = rw append-nil
 
 -- ---- lengths
 
@@ -73,15 +84,18 @@ unfolding hex
 length-hex [] = refl
 length-hex (x ∷ xs) = omega (arith, length-hex xs)
 
--- numbers of at most ten digits
-pub length-spaced-numbers : (q : ℕ) (vs : List ℕ) → q ≤ 10 ^ 10 → T (areBelow q vs) → length (spacedNumbers vs) ≤ 11 * length vs
-unfolding spacedNumbers
-length-spaced-numbers q [] h t = omega arith
-length-spaced-numbers q (v ∷ vs) h t =
-    let few : v < 10 ^ 10 = omega (arith, ltb→lt v q (and-left (ltb v q) (areBelow q vs) t)) in
-    let ten : length (decimal v) ≤ 10 = rw (digits-enough 9 19 v (omega arith) few) (length-digits 9 v) in
-    let rest = length-spaced-numbers q vs h (and-right (ltb v q) (areBelow q vs) t) in
-    omega (arith, length-append (spaced (decimal v)) (spacedNumbers vs))
+-- integers of at most ten digits
+length-integer : (q : ℕ) (e : ℤ) → q < 10 ^ 10 → natAbs e ≤ q → length (signedDecimal e) ≤ 11
+length-integer q (pos n) h l = rw (integer-natural n (omega arith)) (omega (arith, length-digits 9 n))
+length-integer q (negsuc n) h l = rw (integer-negative n (omega arith)) (omega (arith, length-digits 9 (suc n)))
+
+pub length-spaced-integers : (q : ℕ) (es : List ℤ) → q < 10 ^ 10 → T (within q es) → length (spacedIntegers es) ≤ 12 * length es
+unfolding spacedIntegers
+length-spaced-integers q [] h t = omega arith
+length-spaced-integers q (e ∷ es) h t =
+    let field = length-integer q e h (leb→le (natAbs e) q (and-left (leb (natAbs e) q) (within q es) t)) in
+    let rest = length-spaced-integers q es h (and-right (leb (natAbs e) q) (within q es) t) in
+    omega (arith, length-append (spaced (signedDecimal e)) (spacedIntegers es))
 
 -- ---- no space in a field
 
@@ -102,6 +116,11 @@ visible-digits (suc more) n =
 
 pub visible-decimal : (n : ℕ) → T (all isVisible (decimal n))
 visible-decimal n = visible-digits 19 n
+
+visible-integer : (e : ℤ) → T (all isVisible (signedDecimal e))
+unfolding signedDecimal
+visible-integer (pos n) = visible-decimal n
+visible-integer (negsuc n) = visible-append (minusSign ∷ []) (decimal (suc n)) tt (visible-decimal (suc n))
 
 pub visible-digit : (n : ℕ) → 32 < hexDigit n
 visible-digit n = cond-by (λ (x : ℕ). 32 < x) (ltb n 10) (λ t. omega arith) (λ t. omega arith)
@@ -128,7 +147,7 @@ inside l t = all-weaker isVisible isInside (λ x v. lt→ltb 10 x (omega (arith,
 pub inside-append : (l m : List ℕ) → T (all isInside l) → T (all isInside m) → T (all isInside (l ++ m))
 inside-append l m s t = rw (all-append isInside l m) (and-intro (all isInside l) (all isInside m) s t)
 
-pub inside-numbers : (vs : List ℕ) → T (all isInside (spacedNumbers vs))
-unfolding spacedNumbers
-inside-numbers [] = tt
-inside-numbers (v ∷ vs) = inside-append (spaced (decimal v)) (spacedNumbers vs) (inside (decimal v) (visible-decimal v)) (inside-numbers vs)
+pub inside-integers : (es : List ℤ) → T (all isInside (spacedIntegers es))
+unfolding spacedIntegers
+inside-integers [] = tt
+inside-integers (e ∷ es) = inside-append (spaced (signedDecimal e)) (spacedIntegers es) (inside (signedDecimal e) (visible-integer e)) (inside-integers es)

@@ -1,11 +1,14 @@
 // Appenders of text: each stores from a place on in a lent buffer, and gives the place behind what it wrote.
 ghost use mathlib.Core.Path.{_≡_};
 ghost use mathlib.Core.List.{[], _∷_};
-ghost use Prim.Native.Nat.{_+_, _*_, _<_, _≤_};
+ghost use Prim.Native.Nat.{_+_, _*_, _^_, _<_, _≤_};
+ghost use lib.IntN.{natAbs};
 ghost use lib.ListN.{length};
-ghost use Rattle.text.specs.Text.{digits, decimal, hexDigit, hex, spaced, spacedNumbers, Appended};
+ghost use Rattle.text.specs.Text.{digits, decimal, signedDecimal, hexDigit, hex, spaced, Appended};
 
 pub const SPACE: u8 = 32;
+
+pub const MINUS: u8 = 45;
 
 pub const LINE_FEED: u8 = 10;
 
@@ -44,18 +47,28 @@ pub fn put_number(out: &mut [u8], at: usize, n: u32) -> usize
     put_digits(out, next, n as usize, 9)
 }
 
-pub fn put_numbers(out: &mut [u8], at: usize, numbers: &[u32]) -> usize
-    requires { ⌜ at + 11 * length (now numbers) ≤ length (now out) ⌝ }
-    ensures text { λ r. ⌜ Appended (now (out .entry)) at (spacedNumbers (now (numbers .entry))) (now (out .exit)) r ⌝ }
-    ensures end { λ r. ⌜ r ≤ at + 11 * length (now (numbers .entry)) ⌝ }
+fn magnitude(e: i64) -> usize
+    ensures { λ r. ⌜ r ≡ natAbs e ⌝ }
 {
-    let mut next = at;
-    let mut i: usize = 0;
-    while i < numbers.len() {
-        next = put_number(out, next, numbers[i]);
-        i += 1;
+    if e < 0 {
+        ((-1 - e) as usize) + 1
+    } else {
+        e as usize
     }
-    next
+}
+
+// A space and an integer. Below 2 to the 33 its absolute value has at most ten digits.
+pub fn put_integer(out: &mut [u8], at: usize, e: i64) -> usize
+    requires { ⌜ (at + 12 ≤ length (now out)) × (natAbs e < 2 ^ 33) ⌝ }
+    ensures text { λ r. ⌜ Appended (now (out .entry)) at (spaced (signedDecimal e)) (now (out .exit)) r ⌝ }
+    ensures end { λ r. ⌜ r ≤ at + 12 ⌝ }
+{
+    let next = put(out, at, SPACE);
+    if e < 0 {
+        let digits = put(out, next, MINUS);
+        return put_digits(out, digits, magnitude(e), 9);
+    }
+    put_digits(out, next, magnitude(e), 9)
 }
 
 pub fn hex_digit(n: u8) -> u8

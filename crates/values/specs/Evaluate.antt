@@ -23,8 +23,8 @@ evaluateRefusalIn p size exponents room =
     cond (not (evaluateLengths p size (length exponents) room)) wrongLength
     (cond (not (areExponents p exponents)) wrongExponents 0)
 
-unfoldable pub evaluateRefusal : ℕ → List ℤ → List ℕ → List ℕ → ℕ
+unfoldable pub evaluateRefusal : ℕ → List ℤ → List ℕ → List ℤ → ℕ
 evaluateRefusal s f exponents out = inSet s (λ (p : Params). evaluateRefusalIn p (length f) exponents (length out))
 
-unfoldable pub evaluateWritten : ℕ → List ℤ → List ℕ → List ℕ → List ℕ
+unfoldable pub evaluateWritten : ℕ → List ℤ → List ℕ → List ℤ → List ℤ
 evaluateWritten s f exponents out = unlessRefused (evaluateRefusal s f exponents out) (evaluations (setOf s) f exponents) out

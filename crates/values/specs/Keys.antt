@@ -6,7 +6,7 @@ use Prim.Native.Nat.{ℕ}
 use lib.Dec.{eqb}
 use lib.ListN.{length}
 use Rattle.parameters.specs.declared.Params.{Params}
-use Rattle.polynomial.specs.Evaluation.{evaluations}
+use Rattle.polynomial.specs.Evaluation.{evaluationResidues}
 use Rattle.encoding.specs.Encoding.{secretKeySize, publicKeySize, areExponents, isKey, keyOf, publicKey}
 use Rattle.refusal.specs.Answer.{setByte, setIn, inSetOf, unlessRefused}
 use Rattle.refusal.specs.Numbers.{wrongLength, wrongExponents, wrongKey}
@@ -24,9 +24,9 @@ publicKeyRefusalIn p key exponents room =
 unfoldable pub publicKeyRefusal : List ℕ → List ℕ → List ℕ → ℕ
 publicKeyRefusal key exponents out = inSetOf key (λ (p : Params). publicKeyRefusalIn p key exponents (length out))
 
--- the public key: the public evaluations of the secret key at the points
+-- the public key: the public evaluations of the secret key at the points, in 0..q-1
 unfoldable pub publicKeyIn : Params → List ℕ → List ℕ → List ℕ
-publicKeyIn p key exponents = publicKey (setByte key) exponents (evaluations p (keyOf key) exponents)
+publicKeyIn p key exponents = publicKey (setByte key) exponents (evaluationResidues p (keyOf key) exponents)
 
 -- the buffer after it, in one set and of the entry
 unfoldable pub publicKeyWrittenIn : Params → List ℕ → List ℕ → List ℕ → List ℕ

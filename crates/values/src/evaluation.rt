@@ -24,7 +24,7 @@ fn evaluate_refusal(p: Params, size: usize, exponents: &[u16], room: usize) -> u
 }
 
 // Evaluates N coefficients at the t points. Refuses with 2, 1, 4.
-pub fn evaluate(set: u8, coefficients: &[i16], exponents: &[u16], out: &mut [u32]) -> Answer
+pub fn evaluate(set: u8, coefficients: &[i16], exponents: &[u16], out: &mut [i32]) -> Answer
     ensures answer { λ r. ⌜ r ≡ answerOf (evaluateRefusal set (now (coefficients .entry)) (now (exponents .entry)) (now (out .entry))) ⌝ }
     ensures number { λ r. ⌜ answerStates r ≡ stated (evaluateRefusal set (now (coefficients .entry)) (now (exponents .entry)) (now (out .entry))) [] ⌝ }
     ensures written { λ r. ⌜ now (out .exit) ≡ evaluateWritten set (now (coefficients .entry)) (now (exponents .entry)) (now (out .entry)) ⌝ }

@@ -5,7 +5,7 @@ ghost use mathlib.Core.List.{[], _∷_};
 ghost use lib.ListN.{length};
 ghost use Rattle.parameters.specs.Ring.{Usable};
 ghost use Rattle.parameters.specs.Sound.{Fitting};
-ghost use Rattle.polynomial.specs.Evaluation.{evaluations};
+ghost use Rattle.polynomial.specs.Evaluation.{evaluationResidues};
 ghost use Rattle.encoding.specs.Encoding.{areExponents, keyIn};
 ghost use Rattle.refusal.specs.Answer.{answerOf, stated, answerStates};
 ghost use Rattle.values.specs.Keys.{publicKeyLengths, publicKeyRefusalIn, publicKeyWrittenIn, publicKeyRefusal, publicKeyWritten};
@@ -19,7 +19,7 @@ use parameters::MAX_N;
 use parameters::MAX_T;
 use parameters::Params;
 use parameters::ring_of;
-use polynomial::evaluation::evaluate;
+use polynomial::evaluation::evaluate_residues;
 use refusal::Answer;
 use refusal::WRONG_EXPONENTS;
 use refusal::WRONG_KEY;
@@ -47,7 +47,7 @@ fn key_refusal(p: Params, key: &[u8], exponents: &[u16], room: usize) -> u32
     unless(are_exponents(exponents, p.n), WRONG_EXPONENTS, of_key)
 }
 
-// The public evaluations of a key without its set byte at the points.
+// The public evaluations of a key without its set byte at the points, in 0..q-1.
 pub fn key_evaluations(
     p: Params,
     powers: &[u32; MAX_N],
@@ -57,11 +57,11 @@ pub fn key_evaluations(
 )
     requires { ⌜ Usable p (now powers) ⌝ }
     requires { ⌜ (length (now key) ≡ p .n) × (length (now exponents) ≡ p .t) × (length (now out) ≡ p .t) × (areExponents p (now exponents) ≡ true) ⌝ }
-    ensures { λ _. ⌜ now (out .exit) ≡ evaluations p (keyIn (now (key .entry))) (now (exponents .entry)) ⌝ }
+    ensures { λ _. ⌜ now (out .exit) ≡ evaluationResidues p (keyIn (now (key .entry))) (now (exponents .entry)) ⌝ }
 {
     let n = p.n;
     let f = decode_secret_key(p, key);
-    evaluate(p, powers, &f[..n], exponents, out);
+    evaluate_residues(p, powers, &f[..n], exponents, out);
 }
 
 // Writes the public key in a set of a key without its set byte.

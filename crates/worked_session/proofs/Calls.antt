@@ -3,9 +3,10 @@
 use mathlib.Core.Path.{_≡_}
 use mathlib.Core.List.{[], _∷_, flatten}
 use mathlib.Core.Option.{some}
+use lib.IntN.{pos, negsuc}
 use lib.ListN.{drop}
 use Rattle.parameters.specs.Sets.{sets, setOf}
-use Rattle.polynomial.specs.Evaluation.{evaluation, evaluations}
+use Rattle.polynomial.specs.Evaluation.{evaluation, evaluationResidue, evaluations, evaluationResidues}
 use Rattle.challenge.specs.Draw.{drawChallenge}
 use Rattle.encoding.specs.Bytes.{bigEndian, numbers, encoded}
 use Rattle.encoding.specs.Encoding.{isKey, keyOf, publicKey, signatureBytes, exponentsOf, evaluationsOf}
@@ -20,8 +21,8 @@ use Rattle.worked_session.proofs.Draws.{first-drawn, second-drawn}
 
 -- the first mask gives a z out of range, the second passes
 by-second : signedBy drawChallenge (setOf 0) (keyOf key) exponents masks message
-    ≡ some (record { passedOver = 1; commitment = 18 ∷ 3 ∷ []; signature = bodyRead (setOf 0) (drop 1 signature) })
-unfolding signedBy attempt key exponents masks keyOf setOf sets evaluations evaluation bodyRead signature numbers
+    ≡ some (record { passedOver = 1; commitment = negsuc 12 ∷ pos 3 ∷ []; signature = bodyRead (setOf 0) (drop 1 signature) })
+unfolding signedBy attempt key exponents masks keyOf setOf sets evaluations evaluation evaluationResidues evaluationResidue bodyRead signature numbers
 by-second = rw (first-drawn, second-drawn)
 
 pub signs : signAnswer key exponents masks message room ≡ signing.Signed 1
@@ -35,5 +36,5 @@ writes = rw by-second
 
 pub says-yes : checkAnswer (publicKey 0 exponents values) message signature ≡ answer.Yes
 unfolding signature checkAnswer checkRefusal checkRefusalIn checkRefusalOf checkVerdict exponents values publicKey encoded bigEndian flatten
-    setOf sets exponentsOf evaluationsOf numbers bodyRead verdict evaluations evaluation message
+    setOf sets exponentsOf evaluationsOf numbers bodyRead verdict evaluationResidues evaluationResidue message
 says-yes = rw second-drawn

@@ -8,9 +8,9 @@ use Prim.Native.Nat.{ℕ}
 use lib.IntN.{pos, negsuc}
 use lib.ListN.{drop}
 use Rattle.parameters.specs.Sets.{sets, setOf}
-use Rattle.polynomial.specs.Evaluation.{evaluation, evaluations}
+use Rattle.polynomial.specs.Evaluation.{evaluation, evaluationResidue, evaluations, evaluationResidues}
 use Rattle.encoding.specs.Bytes.{numbers}
-use Rattle.text.specs.Text.{digits, hex, spacedNumbers}
+use Rattle.text.specs.Text.{digits, signedDecimal, hex, spacedIntegers}
 use Rattle.session_rules.specs.Held.{Chosen, Held, withMasks}
 use Rattle.session_rules.specs.CommandTable.{commandTable, isKnown, commandOf}
 use Rattle.session_rules.specs.Commands.{signed, judged, accepted, chooseSet, loadExponents, loadKey, loadMask, loadMessage, sign, check}
@@ -81,5 +81,5 @@ sign-rows =
 pub all-rows : StepRows file opened transcript
 unfolding file message transcript opened going loaded set-zero setOf sets key exponents values isTagged
     step commandStep refusalDue commandTable isKnown commandOf command commandIn chooseSet loadExponents loadKey loadMask loadMessage
-    numbers evaluations evaluation rowText digits hex spacedNumbers
+    numbers evaluations evaluation evaluationResidues evaluationResidue rowText digits signedDecimal hex spacedIntegers
 all-rows = (refl, (refl, (refl, (refl, (refl, (refl, (refl, (refl, (refl, (refl, (refl, (refl, sign-rows))))))))))))

@@ -5,22 +5,23 @@ use Prim.Native.Nat.{ℕ}
 use lib.ListN.{replicate}
 use borrow.Author.Needs.{needs}
 use Rattle.algebra.proofs.Front.{in-front, stored}
-use Rattle.polynomial.proofs.EvaluationLaws.{length-evaluations}
+use Rattle.polynomial.proofs.EvaluationLaws.{length-evaluation-residues}
 use Rattle.checking.proofs.evaluations_at.Statement.{statement}
 use Rattle.checking.proofs.evaluations_at.Tie as tie
 
-count : tie.Need-slice-aggregate-evaluate
+count : tie.Need-slice-aggregate-evaluate-residues
 count c = in-front (c .before .before .args .p .t) (replicate {A = ℕ} 1152 0) (search needs) .count
 
-evaluate-requires : tie.Need-evaluate-requires
-evaluate-requires c κs =
+evaluate-residues-requires : tie.Need-evaluate-residues-requires
+evaluate-residues-requires c κs =
     let s = c .before .before in
     (s .pre .0, (s .pre .1 .2, (s .pre .1 .1, sym (count c) ∙ sym (s .pre .1 .0))))
 
 returns : tie.Need-returns
 returns c =
     let s = c .before .before .before .before in
-    stored (s .args .p .t) _ (length-evaluations (s .args .p) (s .args .f .now) (s .args .exponents .now) ∙ s .pre .1 .0) (c .before .evaluate .ensures) .front
+    let size = length-evaluation-residues (s .args .p) (s .args .f .now) (s .args .exponents .now) ∙ s .pre .1 .0 in
+    stored (s .args .p .t) _ size (c .before .evaluate-residues .ensures) .front
 
 pub evaluations-at-spec : {M : Type 1} → statement M
-evaluations-at-spec = tie.close (tie.spec (λ c. search needs) count evaluate-requires returns)
+evaluations-at-spec = tie.close (tie.spec (λ c. search needs) count evaluate-residues-requires returns)

@@ -8,7 +8,7 @@ use Rattle.passign_c.proofs.passign_evaluate.Statement.{statement}
 use Rattle.passign_c.proofs.passign_evaluate.Tie as tie
 
 returns : tie.Need-returns
-returns c = let e = c .before .before .before .evaluate .ensures in (c .number .ensures ∙ ap numberOf (e .0) ∙ numbered _, e .1 .1)
+returns c = let e = c .before .before .evaluate .ensures in (c .number .ensures ∙ ap numberOf (e .0) ∙ numbered _, e .1 .1)
 
 pub passign-evaluate-spec : {M : Type 1} → statement M
 passign-evaluate-spec = tie.close (tie.spec (λ c κs. search needs) (λ c κs. search needs) (λ c. search needs) returns)

@@ -10,35 +10,36 @@ use lib.ListN.{length, take, drop, replicate}
 use borrow.Author.Needs.{needs}
 use borrow.Author.Tests.{not-true, not-false}
 use Rattle.algebra.proofs.Front.{InFront, in-front, stored}
-use Rattle.polynomial.specs.Evaluation.{evaluations}
+use Rattle.polynomial.specs.Evaluation.{evaluationResidues}
 use Rattle.polynomial.specs.Sparse.{Sparse}
-use Rattle.polynomial.proofs.EvaluationLaws.{length-evaluations}
+use Rattle.polynomial.proofs.EvaluationLaws.{length-evaluation-residues}
 use Rattle.challenge.specs.Draw.{drawChallenge}
 use Rattle.scheme.specs.Scheme.{withChallenge, attempt}
 use Rattle.signing.proofs.Answer.{attempted-none, attempted-as, attempt-is, drawn-sparse}
 use Rattle.signing.proofs.sign_with_mask.Statement.{statement}
 use Rattle.signing.proofs.sign_with_mask.Tie as tie
 
-count : tie.Need-slice-aggregate-evaluate
+count : tie.Need-slice-aggregate-evaluate-residues
 count c = in-front (c .before .before .before .before .args .p .t) (replicate {A = ℕ} 1152 0) (search needs) .count
 
-evaluate-requires : tie.Need-evaluate-requires
-evaluate-requires c κs =
+evaluate-residues-requires : tie.Need-evaluate-residues-requires
+evaluate-residues-requires c κs =
     let s = c .before .before .before .before in
     let (usable, key, exponents) = s .pre .0 in
     (usable, (s .pre .1 .0, (exponents .below, sym (count c) ∙ sym (exponents .size))))
 
 -- the commitment stands in front of the array
-module _ (c : tie.After-evaluate) where
+module _ (c : tie.After-evaluate-residues) where
   abbrev start : tie.Start
   start = c .before .before .before .before .before
 
   committed : let s = start .args in
-      InFront (s .p .t) (evaluations (s .p) (s .y .now) (s .exponents .now)) (c .evaluate .last .1 .1 .1 .1 .0 ++ drop (s .p .t) (replicate 1152 0))
+      InFront (s .p .t) (evaluationResidues (s .p) (s .y .now) (s .exponents .now))
+      (c .evaluate-residues .last .1 .1 .1 .1 .0 ++ drop (s .p .t) (replicate 1152 0))
   committed =
       let s = start .args in
-      let size = length-evaluations (s .p) (s .y .now) (s .exponents .now) ∙ start .pre .0 .2 .size in
-      stored (s .p .t) (drop (s .p .t) (replicate 1152 0)) size (c .evaluate .ensures)
+      let size = length-evaluation-residues (s .p) (s .y .now) (s .exponents .now) ∙ start .pre .0 .2 .size in
+      stored (s .p .t) (drop (s .p .t) (replicate 1152 0)) size (c .evaluate-residues .ensures)
 
 challenge-of-requires : tie.Need-challenge-of-requires
 challenge-of-requires c κs =
@@ -48,7 +49,7 @@ challenge-of-requires c κs =
 
 -- what the drawer's answer decides
 module _ (c : tie.After-challenge-of) where
-  abbrev w : tie.After-evaluate
+  abbrev w : tie.After-evaluate-residues
   w = c .before .before .before
 
   tried : {t : Bool} → c .challenge-of .result .complete ≡ t →
@@ -88,6 +89,6 @@ returns-2 c =
 pub sign-with-mask-spec : {M : Type 1} → statement M
 sign-with-mask-spec =
     tie.close
-    (tie.spec (λ c. search needs) count evaluate-requires (λ c. committed (c .before) .room) (λ c. committed (c .before .before) .count)
+    (tie.spec (λ c. search needs) count evaluate-residues-requires (λ c. committed (c .before) .room) (λ c. committed (c .before .before) .count)
     challenge-of-requires returns (λ c. drawn (c .before .before .before) .room) (λ c. drawn (c .before .before .before .before) .count)
     sign-with-challenge-requires (λ c. search needs) returns-2)

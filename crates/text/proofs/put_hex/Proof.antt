@@ -27,7 +27,7 @@ loop-again : tie.Need-loop-again Inv-loop μ-loop
 loop-again c =
     let turn = c .before .before .before .before .before .before in
     let xs = turn .before .before .before .args .bytes .now in
-    let text = appended-more hex hex-append xs (turn .loop .i) (omega arith) (turn .loop .inv .3) (c .before .before .put-hex-byte .ensures .0) in
+    let text = appended-more hex hex-append xs (turn .loop .i) 0 (omega arith) (turn .loop .inv .3) (c .before .before .put-hex-byte .ensures .0) in
     (omega arith, omega arith, search needs, text)
 
 returns : tie.Need-returns Inv-loop μ-loop

@@ -7,7 +7,7 @@ use lib.IntN.{pos}
 use lib.ListN.{length, getD}
 use mir.Syntax.{w16}
 use Rattle.algebra.proofs.Filling.{Filled, filled-none, filled-more, filled-all}
-use Rattle.encoding.proofs.Sign.{reread}
+use Rattle.algebra.proofs.Signed.{reread}
 use Rattle.encoding.proofs.numbers.copy_i16.Statement.{statement}
 use Rattle.encoding.proofs.numbers.copy_i16.Tie as tie
 

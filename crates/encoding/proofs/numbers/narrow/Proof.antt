@@ -13,8 +13,7 @@ use mir.Facts.{toZ-ofZ}
 use Rattle.algebra.specs.Integer.{within}
 use Rattle.algebra.proofs.All.{all-at}
 use Rattle.algebra.proofs.Filling.{Filled, filled-none, filled-more, filled-all}
-use Rattle.algebra.proofs.Signed.{fits-signed}
-use Rattle.encoding.proofs.Sign.{reread}
+use Rattle.algebra.proofs.Signed.{fits-signed, reread}
 use Rattle.encoding.proofs.numbers.narrow.Statement.{statement}
 use Rattle.encoding.proofs.numbers.narrow.Tie as tie
 

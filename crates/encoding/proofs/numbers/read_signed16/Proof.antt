@@ -9,7 +9,7 @@ use Rattle.algebra.proofs.Filling.{Filled, filled-none, filled-map, filled-all}
 use Rattle.encoding.specs.Bytes.{numbers, signed16}
 use Rattle.encoding.proofs.Parts.{length-numbers}
 use Rattle.encoding.proofs.Reading.{number-at}
-use Rattle.encoding.proofs.Sign.{reread}
+use Rattle.algebra.proofs.Signed.{reread}
 use borrow.Author.Needs.{needs}
 use native.Mathlib.Omega.{arith}
 use Rattle.encoding.proofs.numbers.read_signed16.Statement.{statement}

@@ -7,7 +7,7 @@ use lib.IntN.{pos}
 use lib.ListN.{length, getD, length-map, List·getD-map}
 use mir.Syntax.{w16}
 use Rattle.encoding.specs.Bytes.{bits16}
-use Rattle.encoding.proofs.Sign.{reread}
+use Rattle.algebra.proofs.Signed.{reread}
 use Rattle.encoding.proofs.Writing.{Written, written-none, written-more, written-all}
 use borrow.Author.Needs.{needs}
 use native.Mathlib.Omega.{arith}

@@ -9,7 +9,7 @@ use mir.Syntax.{w16}
 use borrow.Author.Needs.{needs}
 use Rattle.algebra.proofs.Filling.{Filled, filled-none, filled-map, filled-all}
 use Rattle.encoding.specs.Encoding.{keyCoefficient}
-use Rattle.encoding.proofs.Sign.{reread}
+use Rattle.algebra.proofs.Signed.{reread}
 use Rattle.encoding.proofs.secret_key.read_key16.Statement.{statement}
 use Rattle.encoding.proofs.secret_key.read_key16.Tie as tie
 

@@ -11,7 +11,7 @@ use Rattle.algebra.proofs.All.{all-at}
 use Rattle.algebra.proofs.Filling.{Filled, filled-none, filled-map, filled-all}
 use Rattle.algebra.proofs.Test.{true-holds, holds-true}
 use Rattle.encoding.specs.Encoding.{isKeyByte, keyCoefficient}
-use Rattle.encoding.proofs.Sign.{reread}
+use Rattle.algebra.proofs.Signed.{reread}
 use Rattle.encoding.proofs.secret_key.read_key8.Statement.{statement}
 use Rattle.encoding.proofs.secret_key.read_key8.Tie as tie
 

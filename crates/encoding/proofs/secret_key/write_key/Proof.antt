@@ -10,7 +10,7 @@ use mir.Syntax.{w8}
 use borrow.Author.Needs.{needs}
 use Rattle.algebra.proofs.Filling.{Filled, filled-none, filled-map, filled-all}
 use Rattle.encoding.specs.Encoding.{keyByte}
-use Rattle.encoding.proofs.Sign.{reread}
+use Rattle.algebra.proofs.Signed.{reread}
 use Rattle.encoding.proofs.secret_key.write_key.Statement.{statement}
 use Rattle.encoding.proofs.secret_key.write_key.Tie as tie
 

@@ -3,7 +3,7 @@
 use mathlib.Core.Path.{sym, _∙_}
 use mir.Syntax.{w8}
 use Rattle.encoding.proofs.Entries.{at-entry, at-none, at-end}
-use Rattle.encoding.proofs.Sign.{reread}
+use Rattle.algebra.proofs.Signed.{reread}
 use borrow.Author.Needs.{needs}
 use native.Mathlib.Omega.{arith}
 use Rattle.encoding.proofs.signature.coefficient_at.Statement.{statement}

@@ -8,7 +8,8 @@ use lib.ListN.{length, length-set}
 use mir.Syntax.{w8}
 use mir.Val.{ofZ}
 use Rattle.encoding.proofs.Entries.{Read, read-none, read-used, read-kept, read-all}
-use Rattle.encoding.proofs.Sign.{reread, zero-bits}
+use Rattle.algebra.proofs.Signed.{reread}
+use Rattle.encoding.proofs.Sign.{zero-bits}
 use borrow.Author.Needs.{needs}
 use native.Mathlib.Omega.{arith}
 use Rattle.encoding.proofs.signature.read_challenge.Statement.{statement}

@@ -9,7 +9,8 @@ use mir.Syntax.{w8}
 use mir.Val.{ofZ}
 use Rattle.encoding.specs.Challenge.{entryOf}
 use Rattle.encoding.proofs.Entries.{Put, put-kept, put-room, put-more, put-all}
-use Rattle.encoding.proofs.Sign.{reread, zero-bits}
+use Rattle.algebra.proofs.Signed.{reread}
+use Rattle.encoding.proofs.Sign.{zero-bits}
 use borrow.Author.Needs.{needs}
 use native.Mathlib.Omega.{arith}
 use Rattle.encoding.proofs.signature.write_entries.Statement.{statement}

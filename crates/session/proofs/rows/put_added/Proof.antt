@@ -11,7 +11,7 @@ returns c = rw (c .enum-told .given .1) (appended-none _ _, omega arith)
 
 returns-2 : tie.Need-returns-2
 returns-2 c =
-    let numbers = rw (c .before .before .before .first-numbers .ensures .0) at (c .before .before .put-numbers .ensures .0) in
+    let numbers = rw (c .before .before .before .first-numbers .ensures .0) at (c .before .before .put-evaluations .ensures .0) in
     rw (c .before .before .before .before .before .before .added .given .1) (numbers, omega arith)
 
 returns-3 : tie.Need-returns-3

@@ -1,18 +1,21 @@
 -- `load_key` meets its contract: the key is tested, its evaluations are worked out in front of the array, and both are held.
 -- Assumes nothing.
-use mathlib.Core.Path.{_≡_, refl, sym, _∙_}
+use mathlib.Core.Path.{_≡_, refl, sym, ap, _∙_}
 use mathlib.Core.List.{List, _++_}
 use Prim.Native.Nat.{ℕ, _≤_}
 use native.Mathlib.Omega.{arith}
+use lib.IntN.{ℤ}
 use lib.ListN.{length, take, drop}
 use lib.Seq.{length-take-le}
 use borrow.Author.Needs.{needs}
 use borrow.Author.Tests.{not-true, not-false}
 use Rattle.algebra.proofs.Front.{InFront, stored}
 use Rattle.algebra.proofs.Test.{holds-true}
-use Rattle.polynomial.proofs.EvaluationLaws.{length-evaluations, evaluations-below}
+use Rattle.polynomial.proofs.EvaluationLaws.{length-evaluation-residues, evaluation-residues-below}
+use Rattle.polynomial.proofs.SignedForm.{centred-residues}
 use Rattle.encoding.specs.Encoding.{keyIn, areEvaluations}
-use Rattle.session_rules.specs.Commands.{keyEvaluations, loadKey}
+use Rattle.session_rules.specs.Held.{Held}
+use Rattle.session_rules.specs.Commands.{values, accepted, keyResidues, loadKey}
 use Rattle.session_state.specs.State.{heldIn}
 use Rattle.session_commands.proofs.Lent.{tested}
 use Rattle.session_commands.proofs.LookedUp.{sound, fitting, points-room, usable}
@@ -51,10 +54,10 @@ module _ (c : tie.After-key-evaluations) where
   js = take (begun .args .p .t) (begun .args .exponents .now)
 
   worked-out : let a = begun .args in
-      InFront (a .p .t) (keyEvaluations (a .p) js (a .operand .now)) (c .key-evaluations .last .1 .1 .1 .1 .0 ++ drop (a .p .t) (a .evaluations .now))
+      InFront (a .p .t) (keyResidues (a .p) js (a .operand .now)) (c .key-evaluations .last .1 .1 .1 .1 .0 ++ drop (a .p .t) (a .evaluations .now))
   worked-out =
       let a = begun .args in
-      let size = length-evaluations (a .p) (keyIn (a .operand .now)) js ∙ exponents-size begun in
+      let size = length-evaluation-residues (a .p) (keyIn (a .operand .now)) js ∙ exponents-size begun in
       stored (a .p .t) (drop (a .p .t) (a .evaluations .now)) size (c .key-evaluations .ensures)
 
 lent-key : tie.Need-slice-aggregate-copy-u8
@@ -67,6 +70,10 @@ copy-u8-requires c κs =
     let s = c .before .before .before .before .before .before .before .before .before .before .before .before .before .before .before in
     sym (lent-key c) ∙ sym (s .pre .0 .1)
 
+-- the row prints what is held in signed form
+same-row : {h : Held} {xs ys : List ℤ} → xs ≡ ys → accepted h (values xs) ≡ accepted h (values ys)
+same-row {h} e = ap (λ (es : List ℤ). accepted h (values es)) e
+
 returns-2 : tie.Need-returns-2
 unfolding loadKey heldIn
 returns-2 c =
@@ -76,9 +83,9 @@ returns-2 c =
     let a = s .args in
     let right = sym (test .before .are-key-bytes .ensures) ∙ not-false _ (test .if1 .left) in
     let key = stored (a .p .n) (drop (a .p .n) (a .key .now)) (s .pre .0 .1) (c .before .before .copy-u8 .ensures) .front in
-    let values = keyEvaluations (a .p) (js w) (a .operand .now) in
-    let below = holds-true (areEvaluations (a .p) values) (evaluations-below (sound (s .pre .0 .0)) (keyIn (a .operand .now)) (js w)) in
-    (λ m t s'. rw (key, worked-out w .front, below, s .pre .1 .1, right), refl)
+    let vs = keyResidues (a .p) (js w) (a .operand .now) in
+    let below = holds-true (areEvaluations (a .p) vs) (evaluation-residues-below (sound (s .pre .0 .0)) (keyIn (a .operand .now)) (js w)) in
+    (λ m t s'. rw (key, worked-out w .front, below, s .pre .1 .1, right) (same-row (centred-residues (a .p) (keyIn (a .operand .now)) (js w))), refl)
 
 pub load-key-spec : {M : Type 1} → statement M
 load-key-spec =

@@ -26,7 +26,7 @@ allowed p size exponents room e =
     let h = step (evaluateLengths p size (length exponents) room) 0 (step (areExponents p exponents) 3 Iff·rfl) .0 e in
     (three-equal size (p .n) (length exponents) (p .t) room (p .t) (h .0), h .1 .0)
 
-known : (c : tie.Else1) → isSet (c .before .before .before .before .args .set) ≡ true
+known : (c : tie.Else1) → isSet (c .before .before .before .args .set) ≡ true
 known c = sym (c .before .is-set .ensures) ∙ not-false _ (c .if1 .left)
 
 returns : tie.Need-returns
@@ -43,7 +43,7 @@ returns-2 c =
 -- the set looked up, and what a call that is not refused has
 module _ (c : tie.After-evaluate-refusal) where
   abbrev start : tie.Start
-  start = c .before .before .before .before .before .before .before
+  start = c .before .before .before .before .before .before
 
   abbrev p : Params
   p = c .before .before .ring-of .result .params
@@ -65,10 +65,10 @@ evaluate-requires c κs =
 returns-3 : tie.Need-returns-3
 unfolding evaluateRefusal evaluateWritten
 returns-3 c =
-    let t = c .before .before .before .before .before .before in
+    let t = c .before .before .before .before .before in
     let g = t .before .before .before in
     rw (known (g .before), ← g .ring-of .ensures .params, ← t .before .evaluate-refusal .ensures, t .if2 .left)
-    (stating (refl, c .before .before .evaluate .ensures))
+    (stating (refl, c .before .evaluate .ensures))
 
 pub evaluate-spec : {M : Type 1} → statement M
 evaluate-spec =

@@ -10,8 +10,8 @@ use lib.ListN.{length, drop, replicate}
 use borrow.Author.Needs.{needs}
 use Rattle.algebra.proofs.Front.{InFront, in-front, stored}
 use Rattle.parameters.specs.declared.Params.{Params}
-use Rattle.polynomial.specs.Evaluation.{evaluations}
-use Rattle.polynomial.proofs.EvaluationLaws.{length-evaluations}
+use Rattle.polynomial.specs.Evaluation.{evaluationResidues}
+use Rattle.polynomial.proofs.EvaluationLaws.{length-evaluation-residues}
 use Rattle.encoding.specs.Encoding.{secretKeySize, publicKeySize, areExponents, isKey, keyIn, keyOf, publicKey}
 use Rattle.refusal.proofs.Refusal.{step}
 use Rattle.refusal.proofs.Answering.{refused, kept, three-equal}
@@ -59,11 +59,11 @@ module _ (c : tie.After-key-evaluations) where
   s = start (c .before .before)
 
   abbrev values : List ℕ
-  values = evaluations (s .args .p) (keyIn (s .args .key .now)) (s .args .exponents .now)
+  values = evaluationResidues (s .args .p) (keyIn (s .args .key .now)) (s .args .exponents .now)
 
   filled : InFront (s .args .p .t) values (c .key-evaluations .last .1 .1 .1 .1 .0 ++ drop (s .args .p .t) (replicate 1152 0))
   filled =
-      let size = length-evaluations (s .args .p) (keyIn (s .args .key .now)) (s .args .exponents .now) ∙ lengths (c .before .before) .0 .1 in
+      let size = length-evaluation-residues (s .args .p) (keyIn (s .args .key .now)) (s .args .exponents .now) ∙ lengths (c .before .before) .0 .1 in
       stored (s .args .p .t) (drop (s .args .p .t) (replicate 1152 0)) size (c .key-evaluations .ensures)
 
 put-public-key-requires : tie.Need-put-public-key-requires
