@@ -10,7 +10,7 @@ use lib.ListN.{length, replicate}
 use Rattle.algebra.specs.Integer.{within}
 use Rattle.parameters.specs.Sets.{setOf}
 use Rattle.polynomial.specs.Polynomial.{star, zOf}
-use Rattle.polynomial.specs.Evaluation.{evaluations}
+use Rattle.polynomial.specs.Evaluation.{evaluations, evaluationResidues}
 use Rattle.challenge.specs.Draw.{draw, kept, valueCount}
 use Rattle.encoding.specs.Encoding.{signatureSize}
 use Rattle.scheme.specs.Scheme.{equal, isDrawn}
@@ -23,8 +23,8 @@ pub data Case : Type 0 where
   draws : List ℕ → List ℤ → Case
   -- a pool keeps these indices only and is spent: a draw from it is refused with 11
   spent : List ℕ → List ℕ → Case
-  -- a polynomial has these evaluations at points 1 and 2
-  evaluates : List ℤ → List ℤ → Case
+  -- a polynomial has these evaluations at points 1 and 2, in signed form and in 0..q-1
+  evaluates : List ℤ → List ℤ → List ℕ → Case
   -- key ⋆ challenge is this product
   multiplies : List ℤ → List ℤ → List ℤ → Case
   -- key, challenge and mask give this point, in range or not
@@ -45,6 +45,9 @@ minus (suc n) = negsuc n
 -- five coefficients
 abbrev pub poly : ℤ → ℤ → ℤ → ℤ → ℤ → List ℤ
 poly a b c d e = a ∷ b ∷ c ∷ d ∷ e ∷ []
+
+abbrev pub constant : ℤ → List ℤ
+constant a = poly a (pos 0) (pos 0) (pos 0) (pos 0)
 
 -- a key and a challenge
 abbrev pub key : List ℤ
@@ -78,21 +81,21 @@ cases =
     -- sign i goes to the i-th index drawn, here 4 and then 1, and not to the i-th smallest
     ∷ draws (padded (0x01 ∷ replicate 7 0 ++ (0x00 ∷ 0x04 ∷ 0x00 ∷ 0x01 ∷ []))) (poly (pos 0) (pos 1) (pos 0) (pos 0) (minus 1))
     ∷ spent (padded []) (0 ∷ [])
-    ∷ evaluates key (pos 7 ∷ minus 1 ∷ [])
+    ∷ evaluates key (pos 7 ∷ minus 1 ∷ []) (7 ∷ 30 ∷ [])
     ∷ multiplies key challenge (poly (pos 1) (minus 1) (pos 1) (minus 2) (pos 1))
     ∷ reaches key challenge (poly (pos 3) (pos 4) (minus 5) (pos 2) (pos 0)) (poly (pos 4) (pos 3) (minus 4) (pos 0) (pos 1)) true
     ∷ reaches key challenge (poly (pos 3) (pos 4) (minus 6) (pos 2) (pos 0)) (poly (pos 4) (pos 3) (minus 5) (pos 0) (pos 1)) false
-    ∷ evaluates oneKey (minus 10 ∷ minus 6 ∷ [])
-    ∷ evaluates otherKey (minus 10 ∷ minus 6 ∷ [])
+    ∷ evaluates oneKey (minus 10 ∷ minus 6 ∷ []) (21 ∷ 25 ∷ [])
+    ∷ evaluates otherKey (minus 10 ∷ minus 6 ∷ []) (21 ∷ 25 ∷ [])
     ∷ reaches oneKey sharedChallenge oneMask sharedPoint true
     ∷ reaches otherKey sharedChallenge otherMask sharedPoint true
-    ∷ evaluates oneMask (minus 12 ∷ minus 13 ∷ [])
-    ∷ evaluates otherMask (minus 12 ∷ minus 13 ∷ [])
+    ∷ evaluates oneMask (minus 12 ∷ minus 13 ∷ []) (19 ∷ 18 ∷ [])
+    ∷ evaluates otherMask (minus 12 ∷ minus 13 ∷ []) (19 ∷ 18 ∷ [])
     -- both ends, 15 and -15, each from a sum inside and from one just beyond the other end
-    ∷ evaluates (poly (pos 15) (pos 0) (pos 0) (pos 0) (pos 0)) (pos 15 ∷ pos 15 ∷ [])
-    ∷ evaluates (poly (minus 16) (pos 0) (pos 0) (pos 0) (pos 0)) (pos 15 ∷ pos 15 ∷ [])
-    ∷ evaluates (poly (minus 15) (pos 0) (pos 0) (pos 0) (pos 0)) (minus 15 ∷ minus 15 ∷ [])
-    ∷ evaluates (poly (pos 16) (pos 0) (pos 0) (pos 0) (pos 0)) (minus 15 ∷ minus 15 ∷ [])
+    ∷ evaluates (constant (pos 15)) (pos 15 ∷ pos 15 ∷ []) (15 ∷ 15 ∷ [])
+    ∷ evaluates (constant (minus 16)) (pos 15 ∷ pos 15 ∷ []) (15 ∷ 15 ∷ [])
+    ∷ evaluates (constant (minus 15)) (minus 15 ∷ minus 15 ∷ []) (16 ∷ 16 ∷ [])
+    ∷ evaluates (constant (pos 16)) (minus 15 ∷ minus 15 ∷ []) (16 ∷ 16 ∷ [])
     ∷ encodes challenge (poly (pos 4) (pos 3) (minus 4) (pos 0) (pos 1))
     (0x00 ∷ 0x00 ∷ 0x02 ∷ 0x80 ∷ 0x03 ∷ 0x00 ∷ 0x04 ∷ 0x00 ∷ 0x03 ∷ 0xFF ∷ 0xFC ∷ 0x00 ∷ 0x00 ∷ 0x00 ∷ 0x01 ∷ [])
     ∷ measures 0 15
@@ -109,7 +112,7 @@ sameBool a b = cond a b (not b)
 unfoldable pub holds : Case → Bool
 holds (draws xs c) = isDrawn (draw (setOf 0) xs) c
 holds (spent xs js) = sameNumbers (kept (setOf 0) xs (valueCount xs)) js && eqb (drawRefusal 0 xs (replicate (setOf 0 .n) (pos 0))) 11
-holds (evaluates f vs) = equal (evaluations (setOf 0) f (1 ∷ 2 ∷ [])) vs
+holds (evaluates f es vs) = equal (evaluations (setOf 0) f (1 ∷ 2 ∷ [])) es && sameNumbers (evaluationResidues (setOf 0) f (1 ∷ 2 ∷ [])) vs
 holds (multiplies f c r) = equal (star f c) r
 holds (reaches f c y z inside) = equal (zOf f c y) z && sameBool (within (setOf 0 .k - setOf 0 .b) z) inside
 holds (encodes c z xs) = sameNumbers (signatureOf 0 (record { c = c; z = z })) xs

@@ -7,6 +7,7 @@ pub mod Whole
 pub mod FileOfPlays
 pub mod FirstPassingOfPlays
 pub mod VerdictsOfPlays
+pub mod PrintedEvaluationsOfPlays
 pub mod HidingOfPlays
 pub mod EndOfPlays
 pub mod OrdinalsOfPlays

@@ -1,5 +1,5 @@
 -- Verdicts in the code's plays: the row of each accepted 07 of any plays of one file that the contracts of `open` and `play` allow prints 1 exactly when the
--- paper's rule holds, with what is read from the commands played before it (`PrintsVerdict`).
+-- paper's rule holds, with what is read from the commands played before it (`verdictPrinted`).
 -- Assumes nothing.
 use mathlib.Core.Path.{_≡_}
 use mathlib.Core.List.{List}

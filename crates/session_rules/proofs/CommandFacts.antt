@@ -36,7 +36,7 @@ use Rattle.text.specs.Text.{decimal, hex, spaced}
 use Rattle.text.proofs.Text.{length-decimal, length-hex, length-spaced-integers}
 use Rattle.session_rules.specs.Held.{Chosen, paramsOf, Held, isHeld, given, withMasks}
 use Rattle.session_rules.specs.CommandTable.{commandTable, commandOf, forLoading, forSigning, forChecking}
-use Rattle.session_rules.specs.Commands.{Payload, nothing, signed, judged, Result, accepted, refused}
+use Rattle.session_rules.specs.Commands.{Payload, nothing, values, signed, judged, Result, accepted, refused}
 use Rattle.session_rules.specs.Commands.{keyEvaluations, keyResidues, maskOf, commandIn, command}
 use Rattle.session_rules.specs.Commands.{chooseSet, loadExponents, loadKey, loadMask, loadMessage, loadEvaluations}
 use Rattle.session_rules.specs.Commands.{afterSigning, callSigning, sign, afterCheck, check}
@@ -44,7 +44,8 @@ use Rattle.session_rules.specs.Rows.{payloadText}
 use Rattle.session_rules.specs.Play.{lacksSet}
 use Rattle.session_rules.specs.Plays.{Event, Material, paramsIn, readSet, callWith, chosenBy, firstPassing, withAccepted, withCommand}
 use Rattle.session_rules.specs.HeldIsRead.{Available, availableWithAccepted, availableWith}
-use Rattle.session_rules.specs.Verdicts.{holdsOf}
+use Rattle.session_rules.specs.Verdicts.{holdsOf, verdictPrinted}
+use Rattle.session_rules.specs.PrintedEvaluations.{evaluationsPrinted}
 use Rattle.session_rules.specs.Refusals.{isEnding}
 use Rattle.session_rules.proofs.CommandTable.{by-known, needs-set, command-set, command-in}
 use Rattle.session_rules.proofs.Kept.{TestedSet, isMask, Kept, gone, kept, kept-as, needed, KeptAll}
@@ -86,7 +87,8 @@ pub record CommandFacts (m : Material) (a : Available) (h : Held) (b : ℕ) (op 
   pub keeps : KeptAll (withCommand m (played b op (d .number))) (availableWith m a (played b op (d .number))) (d .held)
   pub signs : b ≡ 6 → d .number ≡ 0 → SignedWith m (d .payload)
   pub nine : b ≡ 6 → d .number ≡ nonePasses → NineWith m
-  pub judges : b ≡ 7 → d .number ≡ 0 → d .payload ≡ judged (cond (holdsOf m a op) 1 0)
+  pub judges : b ≡ 7 → d .number ≡ 0 → d .payload ≡ verdictPrinted m a op
+  pub prints : b ≡ 3 → d .number ≡ 0 → d .payload ≡ evaluationsPrinted m a op
   pub refusal : (d .number ≡ 0 → ⊥) → RefusalFacts h ended d
   pub accepted-ends : d .number ≡ 0 → ended ≡ eqb b 0
   pub short : length (payloadText (d .payload)) ≤ 13900
@@ -100,6 +102,7 @@ module _ (m : Material) (a : Available) (h : Held) (w : KeptAll m a h) (op : Lis
     signs = λ s y. absurd (eqb-false n 0 z y);
     nine = λ s y. absurd (eqb-false n 9 q y);
     judges = λ s y. absurd (eqb-false n 0 z y);
+    prints = λ s y. absurd (eqb-false n 0 z y);
     refusal = λ y. record { leaves = rw q; alone = refl; ends = e };
     accepted-ends = λ y. absurd (eqb-false n 0 z y);
     short = omega arith;
@@ -107,13 +110,14 @@ module _ (m : Material) (a : Available) (h : Held) (w : KeptAll m a h) (op : Lis
 
   -- an accepted command other than 06 and 07
   pub accepted-facts : (b : ℕ) {ended : Bool} {next : Held} {x : Payload} → eqb b 6 ≡ false → eqb b 7 ≡ false → ended ≡ eqb b 0
-      → length (payloadText x) ≤ 13900
+      → (b ≡ 3 → x ≡ evaluationsPrinted m a op) → length (payloadText x) ≤ 13900
       → KeptAll (withCommand m (played b op 0)) (availableWith m a (played b op 0)) next → CommandFacts m a h b op ended (accepted next x)
-  accepted-facts b other seventh ends short keeps = record {
+  accepted-facts b other seventh ends printed short keeps = record {
     keeps = keeps;
     signs = λ s y. absurd (eqb-false b 6 other s);
     nine = λ s y. absurd (eqb-false b 6 other s);
     judges = λ s y. absurd (eqb-false b 7 seventh s);
+    prints = λ s y. printed s;
     refusal = λ y. absurd (y refl);
     accepted-ends = λ y. ends;
     short = short;
@@ -133,7 +137,7 @@ module _ (m : Material) (a : Available) (h : Held) (w : KeptAll m a h) (op : Lis
   set-facts =
       let byte = getD op 0 0 in
       unless 1 2 refl refl refl (isSet byte)
-      (λ e. accepted-facts 1 refl refl refl (omega arith)
+      (λ e. accepted-facts 1 refl refl refl (λ three. absurd (omega arith)) (omega arith)
       (only-set (readSet m (chosenBy byte)) (a .values) (kept (record { known = ltb-true byte 5 e; own = refl }))))
 
   -- in the set read
@@ -149,7 +153,7 @@ module _ (m : Material) (a : Available) (h : Held) (w : KeptAll m a h) (op : Lis
     exponents-facts =
         let js = numbers 2 (p .t) op in
         unless 2 4 refl refl refl (areExponents p js)
-        (λ e. accepted-facts 2 refl refl refl (omega arith)
+        (λ e. accepted-facts 2 refl refl refl (λ three. absurd (omega arith)) (omega arith)
         (keep-evaluations (keep-key (keep-exponents w js (kept (record { size = length-numbers 2 (p .t) op; rise = e }))) _ gone) _ gone))
 
     key-facts : T (isHeld (h .exponents)) → length op ≡ p .n → Facts 3 (loadKey c h op)
@@ -165,7 +169,7 @@ module _ (m : Material) (a : Available) (h : Held) (w : KeptAll m a h) (op : Lis
         let few = length-evaluations p f js ∙ tested .size in
         let text = length-spaced-integers (p .q / 2) es (omega (arith, fitting s .modulus)) (evaluations-within (sound s) f js) in
         unless 3 5 refl refl refl (all isKeyByte op)
-        (λ e. accepted-facts 3 refl refl refl
+        (λ e. accepted-facts 3 refl refl refl (λ three. ap (λ (l : List ℕ). values (keyEvaluations p l op)) same)
         (omega (arith, text, few, fitting s .exponents, fitting s .size))
         (keep-evaluations (keep-key w op (kept (record { size = size; bytes = e }))) _
         (kept-as (ap (λ (l : List ℕ). keyResidues p l op) same) (record { size = count; below = holds-true (areEvaluations p vs) below }))))
@@ -177,7 +181,7 @@ module _ (m : Material) (a : Available) (h : Held) (w : KeptAll m a h) (op : Lis
         let count = length-map (numbers 2 (p .n) op) signed16 ∙ length-numbers 2 (p .n) op in
         cond-by (Facts 4) (leb 8 (length (h .masks))) (λ f. refused-facts 4 8 refl refl refl)
         (λ f. unless 4 6 refl refl refl (within (p .k) y)
-        (λ e. accepted-facts 4 refl refl refl (omega arith)
+        (λ e. accepted-facts 4 refl refl refl (λ three. absurd (omega arith)) (omega arith)
         (keep-masks w (ap (λ (l : List (List ℤ)). l ++ (y ∷ [])) (w .masks .0)) (record {
           each =
               rw (
@@ -192,7 +196,7 @@ module _ (m : Material) (a : Available) (h : Held) (w : KeptAll m a h) (op : Lis
 
     message-facts : length op ≡ 64 → Facts 5 (loadMessage c h op)
     unfolding loadMessage withCommand withAccepted availableWith availableWithAccepted
-    message-facts size = accepted-facts 5 refl refl refl (omega arith) (keep-message w op (kept (record { size = size })))
+    message-facts size = accepted-facts 5 refl refl refl (λ three. absurd (omega arith)) (omega arith) (keep-message w op (kept (record { size = size })))
 
     first-signs : {i : ℕ} → answerWith m ≡ signing.Signed i → firstPassing m ≡ i
     unfolding firstPassing
@@ -210,6 +214,7 @@ module _ (m : Material) (a : Available) (h : Held) (w : KeptAll m a h) (op : Lis
       signs = λ six z. record { set = s; answer = rw (first-signs e) e; payload = rw (first-signs e, b) };
       nine = λ six z. absurd (omega arith);
       judges = λ seven z. absurd (omega arith);
+      prints = λ three z. absurd (omega arith);
       refusal = λ z. absurd (z refl);
       accepted-ends = λ z. refl;
       short =
@@ -222,6 +227,7 @@ module _ (m : Material) (a : Available) (h : Held) (w : KeptAll m a h) (op : Lis
           signs = λ six z. absurd (omega arith);
           nine = λ six z. record { set = s; answer = e ∙ ap signing.Refused (nine n e) };
           judges = λ seven z. absurd (omega arith);
+          prints = λ three z. absurd (omega arith);
           refusal = λ z. record { leaves = refl; alone = refl; ends = refl };
           accepted-ends = λ z. absurd (omega arith);
           short = omega arith;
@@ -250,6 +256,7 @@ module _ (m : Material) (a : Available) (h : Held) (w : KeptAll m a h) (op : Lis
       signs = λ six z. absurd (omega arith);
       nine = λ six z. absurd (omega arith);
       judges = λ seven z. ap judged e;
+      prints = λ three z. absurd (omega arith);
       refusal = λ z. absurd (z refl);
       accepted-ends = λ z. refl;
       short = omega (arith, length-decimal v);
@@ -277,7 +284,7 @@ module _ (m : Material) (a : Available) (h : Held) (w : KeptAll m a h) (op : Lis
     evaluations-facts =
         let vs = numbers 3 (p .t) op in
         unless 8 7 refl refl refl (areEvaluations p vs)
-        (λ e. accepted-facts 8 refl refl refl (omega arith)
+        (λ e. accepted-facts 8 refl refl refl (λ three. absurd (omega arith)) (omega arith)
         (keep-evaluations (keep-key w _ gone) vs (kept (record { size = length-numbers 3 (p .t) op; below = e }))))
 
     -- 02 to 08

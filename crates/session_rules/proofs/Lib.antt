@@ -7,6 +7,8 @@ pub mod HidingOfSessions
 pub mod MasksInOrder
 pub mod FirstPassing
 pub mod Verdicts
+pub mod PrintedEvaluations
+pub mod PrintedRows
 pub mod Ordinals
 pub mod RowSize
 pub mod After

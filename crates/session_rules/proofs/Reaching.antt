@@ -37,7 +37,7 @@ module _ (m : Material) (a : Available) (s : Session) (w : KeptAll m a (s .held)
       step-by s file (StepFacts m a s)
       (λ n e f b. refused-facts m a (s .held) w [] 0 n (e .refusal) (e .no-nine) (e .ending))
       (λ n e c. refused-facts m a (s .held) w [] _ n (e .refusal) (e .no-nine) (e .ending))
-      (λ c z. accepted-facts m a (s .held) w [] 0 refl refl refl (omega arith) w)
+      (λ c z. accepted-facts m a (s .held) w [] 0 refl refl refl (λ three. absurd (omega arith)) (omega arith) w)
       (λ g.
       let at = placeDue s in
       let d = g .allowed in

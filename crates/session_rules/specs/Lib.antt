@@ -11,5 +11,7 @@ pub mod Transcript
 pub mod Ordinals
 pub mod Refusals
 pub mod FirstPassing
+pub mod PrintedRows
 pub mod Verdicts
+pub mod PrintedEvaluations
 pub mod FilePlayed
