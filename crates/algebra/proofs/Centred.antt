@@ -20,7 +20,7 @@ below-minus r zero h = absurd (omega arith)
 below-minus r (suc q) h = rw (lt-ltb r (suc q) h) refl
 
 module _ {q : ℕ} where
-  pub cong-centre : (r : ℕ) → Cong q (pos r) (centre r q)
+  cong-centre : (r : ℕ) → Cong q (pos r) (centre r q)
   cong-centre r = cond-by (λ (e : ℤ). Cong q (pos r) e) (ltb (2 * r) q) (λ t. cong-refl (pos r)) (λ t. record { times = pos 1; is = simp ring })
 
   centre-small : (r : ℕ) → r < q → 2 * natAbs (centre r q) ≤ q
