@@ -12,7 +12,7 @@ static uint8_t *stack, rows[ROW_BUFFER], pool[512], signature[2379], bytes_out[3
 static ucontext_t here, there;
 static void (*function)(void);
 static uint32_t answer, values[600];
-static int32_t evaluations[600];
+static int32_t evaluations[1152];
 static uint16_t exponents[600], entries[36];
 static int16_t z[1153];
 static int8_t ternary[1153];
@@ -63,6 +63,7 @@ static void sign(void)
 static void check(void) { answer = passign_check(public_key, 1 + 5 * in_use()->t, message, length, signature, signature_size()); }
 static void make_public_key(void) { answer = passign_public_key(secret_key, 1 + in_use()->n, points, in_use()->t, bytes_out, 1 + 5 * in_use()->t); }
 static void evaluate(void) { answer = passign_evaluate(set, masks[0], in_use()->n, points, in_use()->t, evaluations, in_use()->t); }
+static void evaluate_all(void) { answer = passign_evaluate_all(set, masks[0], in_use()->n, evaluations, in_use()->n - 1); }
 static void draw(void) { answer = passign_draw(set, pool, sizeof pool, ternary, in_use()->n); }
 static void read_secret_key(void) { answer = passign_read_secret_key(secret_key, 1 + in_use()->n, ternary, in_use()->n); }
 static void write_secret_key(void) { answer = passign_write_secret_key(set, ternary, in_use()->n, bytes_out, 1 + in_use()->n); }
@@ -89,7 +90,7 @@ static void plays(void)
 /* a writer takes what its reader gave just before it, the check what the signing gave */
 static const struct { const char *name; void (*call)(void); uint32_t expected; } functions[] = {
     {"passign_sign", sign, PASSIGN_SIGNED}, {"passign_check", check, PASSIGN_YES}, {"passign_public_key", make_public_key, 0},
-    {"passign_evaluate", evaluate, 0}, {"passign_draw", draw, 0},
+    {"passign_evaluate", evaluate, 0}, {"passign_evaluate_all", evaluate_all, 0}, {"passign_draw", draw, 0},
     {"passign_read_secret_key", read_secret_key, 0}, {"passign_write_secret_key", write_secret_key, 0},
     {"passign_read_public_key", read_public_key, 0}, {"passign_write_public_key", write_public_key, 0},
     {"passign_read_signature", read_signature, 0}, {"passign_write_signature", write_signature, 0},

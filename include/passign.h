@@ -78,6 +78,10 @@ uint32_t passign_public_key(const uint8_t *secret_key, size_t secret_key_length,
 uint32_t passign_evaluate(uint8_t set, const int16_t *coefficients, size_t coefficients_length, const uint16_t *points, size_t points_length,
                           int32_t *evaluations, size_t evaluations_length);
 
+/* Evaluates N coefficients at all exponents 1 to N-1: N-1 results, in this order, each in signed form as above: 0, else the refusal number (1, 2). */
+uint32_t passign_evaluate_all(uint8_t set, const int16_t *coefficients, size_t coefficients_length,
+                              int32_t *evaluations, size_t evaluations_length);
+
 /* Draws the challenge of a pool of 64 to 512 bytes, a multiple of 64, as N coefficients: 0, else the refusal number (1, 2, 11). */
 uint32_t passign_draw(uint8_t set, const uint8_t *pool, size_t pool_length, int8_t *challenge, size_t challenge_length);
 

@@ -9,7 +9,7 @@ GUARD = bytes(range(0xA0, 0xE0))  # 64 bytes: keeps what follows aligned for eve
 ELEMENTS = {"coefficients": "h", "points": "H", "pool": "B", "secret_key": "B", "masks": "h",
             "message": "B", "public_key": "B", "signature": "B", "key": "b", "evaluations": "I",
             "entries": "H", "z": "h"}
-OUT_ELEMENTS = {"evaluate": "i", "draw": "b", "public_key": "B", "sign": "B", "read_secret_key": "b",
+OUT_ELEMENTS = {"evaluate": "i", "evaluate_all": "i", "draw": "b", "public_key": "B", "sign": "B", "read_secret_key": "b",
                 "write_secret_key": "B", "write_public_key": "B", "write_signature": "B"}
 
 

@@ -7,13 +7,14 @@ from c_library import GUARD, as_bytes, from_bytes
 from reference import library
 from reference.parameters import SETS
 
-REFUSALS = {"evaluate": {2, 1, 4}, "draw": {2, 1, 11}, "public_key": {1, 2, 4, 5},
+REFUSALS = {"evaluate": {2, 1, 4}, "evaluate_all": {2, 1}, "draw": {2, 1, 11}, "public_key": {1, 2, 4, 5},
             "sign": {1, 2, 4, 5, 6, 9}, "check": {1, 2, 4, 7, 12},
             "read_secret_key": {1, 2, 5}, "write_secret_key": {2, 1, 5},
             "read_public_key": {1, 2, 4, 7}, "write_public_key": {2, 1, 4, 7},
             "read_signature": {1, 2, 12}, "write_signature": {2, 1, 12}}
 ACCEPTED = {"sign": {256}, "check": {0, 256}}  # 0 for all others
 ALL_PASSED_OVER = set(range(256, 264))
+EVALUATORS = ("evaluate", "evaluate_all")
 
 
 def writable(name, values):
@@ -57,16 +58,16 @@ def report(call, seed, text):
     print(f"  seed {seed}; replay: tests/run --seed {seed} --call '{call.name}'")
 
 
-def ends_in(s, after):
-    """Which ends of the signed form, (q-1)/2 and -(q-1)/2, an accepted `evaluate` wrote."""
-    written = from_bytes("evaluate", "out", after["out"][len(GUARD):-len(GUARD)])
+def ends_in(s, entry, after):
+    """Which ends of the signed form, (q-1)/2 and -(q-1)/2, an accepted call of an evaluator wrote."""
+    written = from_bytes(entry, "out", after["out"][len(GUARD):-len(GUARD)])
     return {value for value in written if 2 * abs(value) == s.q - 1}
 
 
 def missing(counts, ends):
     """What no call gave: each answer of each entry in each set, both ends of an evaluation in each, and each passed-over number in all."""
-    gaps = [f"evaluate in set {s.number} never writes {end}" for s in SETS
-            for end in sorted({(s.q - 1) // 2, -(s.q - 1) // 2} - ends[s.number])]
+    gaps = [f"{entry} in set {s.number} never writes {end}" for entry in EVALUATORS for s in SETS
+            for end in sorted({(s.q - 1) // 2, -(s.q - 1) // 2} - ends[entry, s.number])]
     for entry in REFUSALS:
         for s in SETS:
             for answer in sorted((REFUSALS[entry] | ACCEPTED.get(entry, {0})) - set(counts[entry, s.number])):
@@ -93,8 +94,8 @@ def run(seed, kit_call, only=None):
         answer, after = expected(call)
         number = int(name.split("/")[1])
         counts[call.entry, number][answer] += 1
-        if call.entry == "evaluate" and answer == 0:
-            ends[number] |= ends_in(SETS[number], after)
+        if call.entry in EVALUATORS and answer == 0:
+            ends[call.entry, number] |= ends_in(SETS[number], call.entry, after)
         text = difference(call, kit_call, answer, after) if kit_call else None
         if text:
             report(call, seed, text)

@@ -102,6 +102,11 @@ def coefficients(name, values):
     return {f"{name} {label}": change(value) for label, value in values.items()}
 
 
+def out_of_points(rng, s, arguments):
+    """A buffer for t evaluations where N-1 are due."""
+    arguments["out"] = arguments["out"][:s.t]
+
+
 def key_bytes(rng, s, arguments):
     if len(arguments["secret_key"]) > 1:
         at = 1 + place(rng, len(arguments["secret_key"]) - 1)
@@ -263,6 +268,8 @@ U32_EDGES = {**EVALUATION_EDGES, "2^24": lambda s: 1 << 24, "2^32-1": lambda s: 
 DAMAGES = {
     "evaluate": {**set_numbers(), **point_lists(), **coefficients("coefficients", I16_EDGES),
                  **longer_or_shorter("coefficients", "points", "out")},
+    "evaluate_all": {**set_numbers(), **coefficients("coefficients", I16_EDGES),
+                     **longer_or_shorter("coefficients", "out"), "out of t": out_of_points},
     "draw": {**set_numbers(), **longer_or_shorter("pool", "out")},
     "public_key": {**SECRET_KEYS, **point_lists(), **longer_or_shorter("points", "out")},
     "sign": {**SECRET_KEYS, **point_lists(), **longer_or_shorter("points", "masks", "out"),

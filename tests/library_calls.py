@@ -38,6 +38,14 @@ def evaluate(rng, s):
     return {"set": s.number, "coefficients": coefficients, "points": material.points(rng, s), "out": out}
 
 
+def evaluate_all(rng, s):
+    return at_all(rng, s, material.signed(rng, s.N, 16))
+
+
+def at_all(rng, s, coefficients):
+    return {"set": s.number, "coefficients": coefficients, "out": material.signed(rng, s.N - 1, 32)}
+
+
 def draw(rng, s):
     return with_pool(rng, s, rng.randbytes(64 * rng.randint(1, 8)))
 
@@ -73,12 +81,13 @@ def with_signature(s, f, at, text, signature):
     return {"public_key": material.public_key(s, f, at), "message": text, "signature": signature}
 
 
-GOOD = {"evaluate": evaluate, "draw": draw, "public_key": public_key, "sign": sign, "check": check, **codec_calls.GOOD}
+GOOD = {"evaluate": evaluate, "evaluate_all": evaluate_all, "draw": draw, "public_key": public_key, "sign": sign, "check": check,
+        **codec_calls.GOOD}
 
 
 # ── Calls made for one rule ─────────────────────────────────────────────────────────────────────
 
-def evaluate_all_equal(rng, s):
+def evaluate_equal(rng, s):
     """The largest sums of both signs."""
     arguments = evaluate(rng, s)
     arguments["coefficients"] = [rng.choice((-32768, 32767, 0, -1))] * s.N
@@ -92,6 +101,34 @@ def evaluate_at_end(sign):
         j = rng.choice(arguments["points"])
         arguments["coefficients"] = material.coefficients_evaluating_to(rng, s, j, sign * (s.q - 1) // 2)
         return arguments
+    return make
+
+
+def all_at_end(sign):
+    """At one exponent, often the first or the last, the evaluation is (q-1)/2, or -(q-1)/2."""
+    def make(rng, s):
+        j = rng.choice((1, s.N - 1, rng.randrange(1, s.N)))
+        return at_all(rng, s, material.coefficients_evaluating_to(rng, s, j, sign * (s.q - 1) // 2))
+    return make
+
+
+def all_of(*values):
+    """These coefficients in turn. Equal ones evaluate to 0, by the largest sums."""
+    def make(rng, s):
+        return at_all(rng, s, (list(values) * s.N)[:s.N])
+    return make
+
+
+def all_extremes(rng, s):
+    return at_all(rng, s, [rng.choice((-32768, 32767)) for _ in range(s.N)])
+
+
+def all_of_one(place):
+    """One coefficient alone is not 0."""
+    def make(rng, s):
+        coefficients = [0] * s.N
+        coefficients[place(rng, s)] = rng.choice((-32768, -1, 1, 32767))
+        return at_all(rng, s, coefficients)
     return make
 
 
@@ -191,7 +228,10 @@ def check_any_bytes(rng, s):
 
 
 SPECIAL = {
-    "evaluate": {"all equal": evaluate_all_equal, "upper end": evaluate_at_end(1), "lower end": evaluate_at_end(-1)},
+    "evaluate": {"all equal": evaluate_equal, "upper end": evaluate_at_end(1), "lower end": evaluate_at_end(-1)},
+    "evaluate_all": {"all -32768": all_of(-32768), "all 32767": all_of(32767), "alternating": all_of(-32768, 32767), "extremes": all_extremes,
+                     "zeros": all_of(0), "first alone": all_of_one(lambda rng, s: 0), "last alone": all_of_one(lambda rng, s: s.N - 1),
+                     "one alone": all_of_one(lambda rng, s: rng.randrange(s.N)), "upper end": all_at_end(1), "lower end": all_at_end(-1)},
     "draw": {"zeros": draw_zeros, "wrong pool": draw_wrong_pool, "last value": draw_at_the_last_value,
              "spent at last": draw_spent_at_the_last_value, "skip bound": draw_about_the_skip_bound},
     "sign": {"after failing": sign_after_failing, "none passes": sign_none_passes,

@@ -50,6 +50,15 @@ def evaluate(set_number, coefficients, points, out):
 
 
 @answers_refusals
+def evaluate_all(set_number, coefficients, out):
+    """At the exponents 1..N-1, in that order, each by the plain evaluation."""
+    s = set_of(set_number)
+    refuse_unless(len(coefficients) == s.N and len(out) == s.N - 1, LENGTH)
+    out[:] = evaluations(s, coefficients, range(1, s.N))
+    return DONE
+
+
+@answers_refusals
 def draw(set_number, pool, out):
     s = set_of(set_number)
     refuse_unless(is_pool_length(len(pool)) and len(out) == s.N, LENGTH)

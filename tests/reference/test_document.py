@@ -45,6 +45,21 @@ def test_evaluations():
         assert evaluation_residues(HAND, key, POINTS) == [21, 25]
 
 
+def test_evaluations_at_all_exponents():
+    """The first key by hand, 1 - g^j + g^3j; then any coefficients of 16 bits, by the definition."""
+    out = [99] * 4
+    assert library.evaluate_all(0, KEY, out) == 0 and out == [7, -1, 9, -11]
+    rng = Random(3)
+    for s in SETS:
+        a, out = [rng.randint(-32768, 32767) for _ in range(s.N)], [99] * (s.N - 1)
+        assert library.evaluate_all(s.number, a, out) == 0 and out == [evaluation(s, a, j) for j in range(1, s.N)]
+        for room in (0, s.t, s.N - 2, s.N):
+            out = [99] * room
+            assert library.evaluate_all(s.number, a, out) == 1 and out == [99] * room
+        assert library.evaluate_all(s.number, a[1:], [99] * (s.N - 1)) == 1
+    assert library.evaluate_all(5, [], []) == 2
+
+
 def test_the_signed_form_is_exact_at_both_ends():
     for s in SETS:
         half = (s.q - 1) // 2

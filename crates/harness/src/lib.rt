@@ -2,10 +2,14 @@
 mod plays;
 
 ghost use mathlib.Core.Path.{_≡_};
+ghost use mathlib.Core.Bool.{true};
 ghost use mathlib.Core.List.{_++_};
 ghost use Prim.Native.Nat.{_≤_};
 ghost use lib.Dec.{T};
 ghost use lib.ListN.{length};
+ghost use Rattle.algebra.specs.All.{areBelow};
+ghost use Rattle.parameters.specs.Sets.{isSet, setOf};
+ghost use Rattle.polynomial.specs.Evaluation.{evaluations};
 ghost use Rattle.polynomial.specs.Polynomial.{zOf, ternary};
 ghost use Rattle.sha512.specs.Digest.{SHA-512};
 
@@ -32,4 +36,24 @@ pub extern "C" fn harness_point(f: &[i16], c: &[i8], y: &[i16], z: &mut [i32])
     ensures { λ _. ⌜ now (z .exit) ≡ zOf (now (f .entry)) (now (c .entry)) (now (y .entry)) ⌝ }
 {
     polynomial::product::z_of(f, c, y, z);
+}
+
+// The plain evaluator at any exponents below N, to measure the one at all exponents against.
+#[no_mangle]
+pub extern "C" fn harness_evaluate(
+    set: u8,
+    coefficients: &[i16],
+    exponents: &[u16],
+    out: &mut [i32],
+)
+    requires { ⌜ isSet set ≡ true ⌝ }
+    requires { ⌜ length (now coefficients) ≡ setOf set .n ⌝ }
+    requires { ⌜ T (areBelow (setOf set .n) (now exponents)) ⌝ }
+    requires { ⌜ length (now out) ≡ length (now exponents) ⌝ }
+    ensures { λ _. ⌜ now (out .exit) ≡ evaluations (setOf set) (now (coefficients .entry)) (now (exponents .entry)) ⌝ }
+{
+    let ring = parameters::ring_of(set);
+    let p = ring.params;
+    let powers = ring.powers;
+    polynomial::evaluation::evaluate(p, &powers, coefficients, exponents, out);
 }

@@ -1,5 +1,6 @@
 pub mod WorkedCases
 pub mod SignedEvaluations
+pub mod AllExponents
 pub mod RefusedWritesNothing
 pub mod Correctness
 pub mod VerdictRule

@@ -22,6 +22,7 @@ use Rattle.signing.specs.Signer.{signedBy, signedBytes}
 use Rattle.signing.specs.Sign.{signRefusal, signedAnswer, signAnswer, signWritten}
 use Rattle.values.specs.Draw.{drawRefusal, drawWritten}
 use Rattle.values.specs.Evaluate.{evaluateRefusal, evaluateWritten}
+use Rattle.values.specs.EvaluateAll.{evaluateAllRefusal, evaluateAllWritten}
 use Rattle.values.specs.Keys.{publicKeyRefusal, publicKeyWritten}
 use Rattle.passign.specs.RefusedWritesNothing.{LeftAsItWas, SigningLeftAsItWas, RefusedWritesNothing}
 
@@ -40,11 +41,12 @@ signing-left true number s (some r) out = record { answered = λ e. absurd (refu
 signing-left false number s o out = record { answered = λ e. refl; returned = λ h. refl }
 
 pub refused-writes-nothing : RefusedWritesNothing
-unfolding evaluateWritten drawWritten publicKeyWritten signAnswer signWritten readSecretKeyWritten writeSecretKeyWritten
+unfolding evaluateWritten evaluateAllWritten drawWritten publicKeyWritten signAnswer signWritten readSecretKeyWritten writeSecretKeyWritten
     readExponentsWritten readEvaluationsWritten writePublicKeyWritten readEntriesWritten readZWritten writeSignatureWritten
 refused-writes-nothing =
     record {
       evaluate = λ s f exponents out. left (evaluateRefusal s f exponents out) _;
+      evaluate-all = λ s f out. left (evaluateAllRefusal s f out) _;
       draw = λ s pool out. left (drawRefusal s pool out) _;
       public-key = λ key exponents out. left (publicKeyRefusal key exponents out) _;
       sign = λ key exponents masks message out.

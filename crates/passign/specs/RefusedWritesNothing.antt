@@ -16,6 +16,7 @@ use Rattle.codec.specs.Codec.{readSignatureRefusal, readEntriesWritten, readZWr
 use Rattle.signing.specs.Sign.{signAnswer, signWritten}
 use Rattle.values.specs.Draw.{drawRefusal, drawWritten}
 use Rattle.values.specs.Evaluate.{evaluateRefusal, evaluateWritten}
+use Rattle.values.specs.EvaluateAll.{evaluateAllRefusal, evaluateAllWritten}
 use Rattle.values.specs.Keys.{publicKeyRefusal, publicKeyWritten}
 
 -- of an entry with this refusal number: it answers `answerOf number`, and to C it returns the number, 0 for none
@@ -32,6 +33,7 @@ pub record SigningLeftAsItWas (answer : Signing) (before after : List ℕ) : Typ
 pub record RefusedWritesNothing : Type 0 where
   pub evaluate : (s : ℕ) (f : List ℤ) (exponents : List ℕ) (out : List ℤ)
       → LeftAsItWas (evaluateRefusal s f exponents out) out (evaluateWritten s f exponents out)
+  pub evaluate-all : (s : ℕ) (f out : List ℤ) → LeftAsItWas (evaluateAllRefusal s f out) out (evaluateAllWritten s f out)
   pub draw : (s : ℕ) (pool : List ℕ) (out : List ℤ) → LeftAsItWas (drawRefusal s pool out) out (drawWritten s pool out)
   pub public-key : (key exponents out : List ℕ) → LeftAsItWas (publicKeyRefusal key exponents out) out (publicKeyWritten key exponents out)
   pub sign : (key exponents : List ℕ) (masks : List ℤ) (message out : List ℕ)

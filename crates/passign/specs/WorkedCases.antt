@@ -11,6 +11,7 @@ use Rattle.algebra.specs.Integer.{within}
 use Rattle.parameters.specs.Sets.{setOf}
 use Rattle.polynomial.specs.Polynomial.{star, zOf}
 use Rattle.polynomial.specs.Evaluation.{evaluations, evaluationResidues}
+use Rattle.transform.specs.UpFrom.{allExponents}
 use Rattle.challenge.specs.Draw.{draw, kept, valueCount}
 use Rattle.encoding.specs.Encoding.{signatureSize}
 use Rattle.scheme.specs.Scheme.{equal, isDrawn}
@@ -25,6 +26,8 @@ pub data Case : Type 0 where
   spent : List ℕ → List ℕ → Case
   -- a polynomial has these evaluations at points 1 and 2, in signed form and in 0..q-1
   evaluates : List ℤ → List ℤ → List ℕ → Case
+  -- and these at all exponents, 1 to 4
+  evaluatesAll : List ℤ → List ℤ → Case
   -- key ⋆ challenge is this product
   multiplies : List ℤ → List ℤ → List ℤ → Case
   -- key, challenge and mask give this point, in range or not
@@ -82,6 +85,7 @@ cases =
     ∷ draws (padded (0x01 ∷ replicate 7 0 ++ (0x00 ∷ 0x04 ∷ 0x00 ∷ 0x01 ∷ []))) (poly (pos 0) (pos 1) (pos 0) (pos 0) (minus 1))
     ∷ spent (padded []) (0 ∷ [])
     ∷ evaluates key (pos 7 ∷ minus 1 ∷ []) (7 ∷ 30 ∷ [])
+    ∷ evaluatesAll key (pos 7 ∷ minus 1 ∷ pos 9 ∷ minus 11 ∷ [])
     ∷ multiplies key challenge (poly (pos 1) (minus 1) (pos 1) (minus 2) (pos 1))
     ∷ reaches key challenge (poly (pos 3) (pos 4) (minus 5) (pos 2) (pos 0)) (poly (pos 4) (pos 3) (minus 4) (pos 0) (pos 1)) true
     ∷ reaches key challenge (poly (pos 3) (pos 4) (minus 6) (pos 2) (pos 0)) (poly (pos 4) (pos 3) (minus 5) (pos 0) (pos 1)) false
@@ -113,6 +117,7 @@ unfoldable pub holds : Case → Bool
 holds (draws xs c) = isDrawn (draw (setOf 0) xs) c
 holds (spent xs js) = sameNumbers (kept (setOf 0) xs (valueCount xs)) js && eqb (drawRefusal 0 xs (replicate (setOf 0 .n) (pos 0))) 11
 holds (evaluates f es vs) = equal (evaluations (setOf 0) f (1 ∷ 2 ∷ [])) es && sameNumbers (evaluationResidues (setOf 0) f (1 ∷ 2 ∷ [])) vs
+holds (evaluatesAll f es) = equal (evaluations (setOf 0) f (allExponents (setOf 0))) es
 holds (multiplies f c r) = equal (star f c) r
 holds (reaches f c y z inside) = equal (zOf f c y) z && sameBool (within (setOf 0 .k - setOf 0 .b) z) inside
 holds (encodes c z xs) = sameNumbers (signatureOf 0 (record { c = c; z = z })) xs

@@ -13,4 +13,5 @@ pub use refusal::Verdict;
 pub use signing::sign;
 pub use values::drawing::draw;
 pub use values::evaluation::evaluate;
+pub use values::evaluation::evaluate_all;
 pub use values::keys::public_key;

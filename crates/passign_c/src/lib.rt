@@ -4,6 +4,7 @@ ghost use Rattle.refusal.specs.Answer.{numberOf, signingNumber, verdictNumber};
 ghost use Rattle.checking.specs.Check.{checkAnswer};
 ghost use Rattle.values.specs.Draw.{drawRefusal, drawWritten};
 ghost use Rattle.values.specs.Evaluate.{evaluateRefusal, evaluateWritten};
+ghost use Rattle.values.specs.EvaluateAll.{evaluateAllRefusal, evaluateAllWritten};
 ghost use Rattle.values.specs.Keys.{publicKeyRefusal, publicKeyWritten};
 ghost use Rattle.signing.specs.Sign.{signAnswer, signWritten};
 use passign::Answer;
@@ -80,6 +81,19 @@ pub extern "C" fn passign_evaluate(
     ensures written { λ r. ⌜ now (evaluations .exit) ≡ evaluateWritten set (now (coefficients .entry)) (now (points .entry)) (now (evaluations .entry)) ⌝ }
 {
     number(passign::evaluate(set, coefficients, points, evaluations))
+}
+
+// 0, else the refusal number.
+#[no_mangle]
+pub extern "C" fn passign_evaluate_all(
+    set: u8,
+    coefficients: &[i16],
+    evaluations: &mut [i32],
+) -> u32
+    ensures answer { λ r. ⌜ r ≡ evaluateAllRefusal set (now (coefficients .entry)) (now (evaluations .entry)) ⌝ }
+    ensures written { λ r. ⌜ now (evaluations .exit) ≡ evaluateAllWritten set (now (coefficients .entry)) (now (evaluations .entry)) ⌝ }
+{
+    number(passign::evaluate_all(set, coefficients, evaluations))
 }
 
 // 0, else the refusal number.

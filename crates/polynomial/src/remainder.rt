@@ -11,7 +11,7 @@ fn wide(x: u32) -> u64
 }
 
 // x modulo q.
-fn modulo(x: u64, q: u32) -> u32
+pub fn modulo(x: u64, q: u32) -> u32
     requires { ⌜ 0 < q ⌝ }
     ensures { λ r. ⌜ r ≡ x % q ⌝ }
 {

@@ -1,3 +1,4 @@
 pub mod Evaluate
+pub mod EvaluateAll
 pub mod Draw
 pub mod Keys

@@ -1,8 +1,10 @@
-// The evaluator as an entry.
+// The evaluators as entries: at the t points, and at all exponents.
 ghost use mathlib.Core.Path.{_≡_};
 ghost use mathlib.Core.List.{[]};
+ghost use Prim.Native.Nat.{_<_};
 ghost use Rattle.refusal.specs.Answer.{answerOf, stated, answerStates};
 ghost use Rattle.values.specs.Evaluate.{evaluateRefusalIn, evaluateRefusal, evaluateWritten};
+ghost use Rattle.values.specs.EvaluateAll.{evaluateAllLengths, evaluateAllRefusal, evaluateAllWritten};
 use encoding::numbers::are_exponents;
 use parameters::Params;
 use parameters::is_set;
@@ -12,6 +14,7 @@ use refusal::WRONG_EXPONENTS;
 use refusal::WRONG_LENGTH;
 use refusal::WRONG_SET;
 use refusal::unless;
+use transform::generator::generator_powers;
 
 // The refusal for lengths and exponents, or 0.
 fn evaluate_refusal(p: Params, size: usize, exponents: &[u16], room: usize) -> u32
@@ -40,5 +43,34 @@ pub fn evaluate(set: u8, coefficients: &[i16], exponents: &[u16], out: &mut [i32
     }
     let powers = ring.powers;
     polynomial::evaluation::evaluate(p, &powers, coefficients, exponents, out);
+    Answer::Done
+}
+
+// Whether there are N coefficients, and room for N - 1 results.
+fn has_all_lengths(p: Params, size: usize, room: usize) -> bool
+    requires { ⌜ 0 < p .n ⌝ }
+    ensures { λ r. ⌜ r ≡ evaluateAllLengths p size room ⌝ }
+{
+    (size == p.n) & (room == p.n - 1)
+}
+
+// Evaluates N coefficients at the exponents 1 .. N - 1, in this order. Refuses with 2, 1.
+pub fn evaluate_all(set: u8, coefficients: &[i16], out: &mut [i32]) -> Answer
+    ensures answer { λ r. ⌜ r ≡ answerOf (evaluateAllRefusal set (now (coefficients .entry)) (now (out .entry))) ⌝ }
+    ensures number { λ r. ⌜ answerStates r ≡ stated (evaluateAllRefusal set (now (coefficients .entry)) (now (out .entry))) [] ⌝ }
+    ensures written { λ r. ⌜ now (out .exit) ≡ evaluateAllWritten set (now (coefficients .entry)) (now (out .entry)) ⌝ }
+{
+    if !is_set(set) {
+        return Answer::Refused(WRONG_SET);
+    }
+    let ring = ring_of(set);
+    let p = ring.params;
+    if !has_all_lengths(p, coefficients.len(), out.len()) {
+        return Answer::Refused(WRONG_LENGTH);
+    }
+    let powers = ring.powers;
+    let order = generator_powers(set);
+    let last = out.len();
+    transform::evaluation::evaluate_all(p, &powers, &order[..last], coefficients, out);
     Answer::Done
 }

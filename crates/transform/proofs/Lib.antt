@@ -1,0 +1,10 @@
+pub mod UpFrom
+pub mod Once
+pub mod GeneratorLaws
+pub mod ReorderedSum
+pub mod Rader
+pub mod Tables
+pub mod FiveSets
+pub mod ConvolutionLaws
+pub mod Placing
+pub mod AllExponents

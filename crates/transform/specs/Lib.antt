@@ -1,0 +1,6 @@
+pub mod UpFrom
+pub mod Prime
+pub mod Generator
+pub mod Convolution
+pub mod Reordering
+pub mod Asks
