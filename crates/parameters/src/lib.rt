@@ -113,7 +113,7 @@ pub fn params_of(set: u8) -> Params
 }
 
 // A table at the front of an array that has room for the largest.
-fn at_front(table: &[u32]) -> [u32; MAX_N]
+pub fn at_front(table: &[u32]) -> [u32; MAX_N]
     requires { ⌜ length (now table) ≤ maxN ⌝ }
     ensures { λ r. ⌜ take (length (now (table .entry))) r ≡ now (table .entry) ⌝ }
 {

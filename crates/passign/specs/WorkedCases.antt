@@ -11,7 +11,11 @@ use Rattle.algebra.specs.Integer.{within}
 use Rattle.parameters.specs.Sets.{setOf}
 use Rattle.polynomial.specs.Polynomial.{star, zOf}
 use Rattle.polynomial.specs.Evaluation.{evaluations, evaluationResidues}
-use Rattle.transform.specs.UpFrom.{allExponents}
+use Rattle.transform.specs.UpFrom.{upFrom}
+use Rattle.transform.specs.AllExponents.{allExponents}
+use Rattle.transform.specs.Generator.{generatorOf}
+use Rattle.transform.specs.Convolution.{convolution}
+use Rattle.transform.specs.Reordering.{reorderedCoefficients, reorderedPowers, reorderedSum}
 use Rattle.challenge.specs.Draw.{draw, kept, valueCount}
 use Rattle.encoding.specs.Encoding.{signatureSize}
 use Rattle.scheme.specs.Scheme.{equal, isDrawn}
@@ -28,6 +32,10 @@ pub data Case : Type 0 where
   evaluates : List ℤ → List ℤ → List ℕ → Case
   -- and these at all exponents, 1 to 4
   evaluatesAll : List ℤ → List ℤ → Case
+  -- two lists have this cyclic convolution modulo q
+  convolves : List ℕ → List ℕ → List ℕ → Case
+  -- in the order of the powers of the generator a polynomial's coefficients and the powers of g are these, and give these sums
+  reorders : List ℤ → List ℤ → List ℤ → List ℤ → Case
   -- key ⋆ challenge is this product
   multiplies : List ℤ → List ℤ → List ℤ → Case
   -- key, challenge and mask give this point, in range or not
@@ -86,6 +94,9 @@ cases =
     ∷ spent (padded []) (0 ∷ [])
     ∷ evaluates key (pos 7 ∷ minus 1 ∷ []) (7 ∷ 30 ∷ [])
     ∷ evaluatesAll key (pos 7 ∷ minus 1 ∷ pos 9 ∷ minus 11 ∷ [])
+    ∷ convolves (1 ∷ 2 ∷ 3 ∷ 4 ∷ []) (5 ∷ 6 ∷ 7 ∷ 8 ∷ []) (4 ∷ 6 ∷ 4 ∷ 29 ∷ [])
+    -- the evaluations above, for exponents 1, 2, 4 and 3
+    ∷ reorders key (minus 1 ∷ pos 1 ∷ pos 0 ∷ pos 0 ∷ []) (pos 2 ∷ pos 4 ∷ pos 16 ∷ pos 8 ∷ []) (pos 7 ∷ minus 1 ∷ minus 11 ∷ pos 9 ∷ [])
     ∷ multiplies key challenge (poly (pos 1) (minus 1) (pos 1) (minus 2) (pos 1))
     ∷ reaches key challenge (poly (pos 3) (pos 4) (minus 5) (pos 2) (pos 0)) (poly (pos 4) (pos 3) (minus 4) (pos 0) (pos 1)) true
     ∷ reaches key challenge (poly (pos 3) (pos 4) (minus 6) (pos 2) (pos 0)) (poly (pos 4) (pos 3) (minus 5) (pos 0) (pos 1)) false
@@ -118,6 +129,10 @@ holds (draws xs c) = isDrawn (draw (setOf 0) xs) c
 holds (spent xs js) = sameNumbers (kept (setOf 0) xs (valueCount xs)) js && eqb (drawRefusal 0 xs (replicate (setOf 0 .n) (pos 0))) 11
 holds (evaluates f es vs) = equal (evaluations (setOf 0) f (1 ∷ 2 ∷ [])) es && sameNumbers (evaluationResidues (setOf 0) f (1 ∷ 2 ∷ [])) vs
 holds (evaluatesAll f es) = equal (evaluations (setOf 0) f (allExponents (setOf 0))) es
+holds (convolves u w r) = sameNumbers (convolution (setOf 0 .q) u w) r
+holds (reorders f us ws sums) =
+    equal (map (reorderedCoefficients (generatorOf 0) (setOf 0) f) (upFrom 0 4)) us
+    && (equal (map (reorderedPowers (generatorOf 0) (setOf 0)) (upFrom 0 4)) ws && equal (map (reorderedSum (generatorOf 0) (setOf 0) f) (upFrom 0 4)) sums)
 holds (multiplies f c r) = equal (star f c) r
 holds (reaches f c y z inside) = equal (zOf f c y) z && sameBool (within (setOf 0 .k - setOf 0 .b) z) inside
 holds (encodes c z xs) = sameNumbers (signatureOf 0 (record { c = c; z = z })) xs

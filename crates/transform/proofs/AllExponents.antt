@@ -6,7 +6,7 @@ use Prim.Native.Nat.{ℕ, _+_, _-_, _^_, _%_, _<_}
 use native.Mathlib.Nat.{mod-lt, zero-add}
 use native.Mathlib.Omega.{arith}
 use lib.Dec.{T, ltb, lt→ltb}
-use lib.IntN.{ℤ, pos, _+ℤ_, _*ℤ_}
+use lib.IntN.{ℤ, pos, _*ℤ_}
 use lib.ListN.{length, getD, length-map}
 use lib.Seq.{ext-getD}
 use Rattle.algebra.specs.All.{areBelow}
@@ -19,7 +19,8 @@ use Rattle.parameters.specs.declared.Params.{Params}
 use Rattle.parameters.specs.Ring.{Usable}
 use Rattle.polynomial.specs.Polynomial.{coefficient}
 use Rattle.polynomial.specs.Evaluation.{evaluation, evaluations}
-use Rattle.transform.specs.UpFrom.{upFrom, allExponents}
+use Rattle.transform.specs.UpFrom.{upFrom}
+use Rattle.transform.specs.AllExponents.{allExponents}
 use Rattle.transform.specs.Prime.{Prime}
 use Rattle.transform.specs.Generator.{GeneratorTable}
 use Rattle.transform.specs.Convolution.{cyclic, entry, convolution}

@@ -20,7 +20,7 @@ use Rattle.algebra.proofs.Remainder.{mod-mul-left}
 use Rattle.algebra.proofs.Test.{and-left, and-right}
 use Rattle.transform.specs.Generator.{Taken, Generator, GeneratorTable, isGeneratorTable}
 use Rattle.transform.specs.Asks.{Places}
-use Rattle.transform.proofs.Once.{apart-takes-each, taken-apart}
+use Rattle.transform.proofs.Permutation.{apart-takes-each, taken-apart}
 
 -- powers, multiplied modulo n
 pub pow-mul-mod : (r i m n : ℕ) → (r ^ i % n) * (r ^ m % n) % n ≡ r ^ (i + m) % n

@@ -1,5 +1,5 @@
 pub mod UpFrom
-pub mod Once
+pub mod Permutation
 pub mod GeneratorLaws
 pub mod ReorderedSum
 pub mod Rader

@@ -1,5 +1,5 @@
--- The sum of an evaluation in the order of a generator's powers, where N is any number above 1 that has a generator r: modulo q it is coefficient 0 plus a cyclic
--- convolution of length N - 1. Rader.antt has the statement for readers.
+-- The sum of an evaluation in the order of a generator's powers, where N is any number above 1 that has a generator r: modulo q it is coefficient 0 plus
+-- a cyclic convolution of length N - 1. Rader.antt has the statement for readers.
 -- Assumes nothing.
 use mathlib.Core.Path.{_≡_, sym, ap, ap₂, _∙_}
 use mathlib.Core.Logic.{_≢_}
@@ -21,7 +21,7 @@ use Rattle.polynomial.specs.Evaluation.{term, sumAt}
 use Rattle.transform.specs.Generator.{Generator}
 use Rattle.transform.specs.Convolution.{cyclic}
 use Rattle.transform.specs.Reordering.{reorderedCoefficients, reorderedPowers, reorderedSum}
-use Rattle.transform.proofs.Once.{apart-takes-each, sum-in-order}
+use Rattle.transform.proofs.Permutation.{apart-takes-each, sum-in-order}
 use Rattle.transform.proofs.GeneratorLaws.{pow-mul-mod, power-positive, place-below, each-place}
 
 -- a power of r goes by its exponent modulo n - 1

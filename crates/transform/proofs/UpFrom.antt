@@ -1,15 +1,18 @@
 -- Numbers one after the other: the list's entries, and a test of them all.
 -- Assumes nothing.
 use mathlib.Core.Path.{_≡_, refl, sym, ap, _∙_}
-use mathlib.Core.Bool.{Bool}
+use mathlib.Core.Bool.{Bool, not}
+use mathlib.Core.Logic.{_≢_}
 use mathlib.Core.List.{List, [], _∷_, map}
 use Prim.Native.Nat.{ℕ, zero, suc, _+_, _-_, _<_, _≤_}
 use native.Mathlib.Nat.{zero-add, le-of-suc-le-suc, not-suc-le-zero}
 use native.Mathlib.Omega.{arith}
-use lib.Dec.{T}
+use borrow.Author.Tests.{eq-eqb}
+use lib.Dec.{T, eqb, eqb→eq, T-not, not-T}
 use lib.ListN.{length, getD, set, length-map}
 use Rattle.algebra.specs.All.{all}
 use Rattle.algebra.proofs.All.{all-at, all-from}
+use Rattle.algebra.proofs.Test.{true-holds}
 use Rattle.algebra.proofs.Filling.{Filled, filled-map}
 use Rattle.transform.specs.UpFrom.{upFrom}
 
@@ -31,6 +34,14 @@ pub up-test : (f : ℕ → Bool) (a n : ℕ) → T (all f (upFrom a n)) → (d :
 up-test f a n t d h l =
     let e : a + (d - a) ≡ d = omega arith in
     rw (← e, ← up-at a n (d - a) 0 (omega arith)) (all-at f (upFrom a n) 0 t (d - a) (omega (arith, up-length a n)))
+
+-- numbers that are never v, by the test of them
+module _ (f : ℕ → ℕ) (v a n : ℕ) where
+  pub up-never : T (all (λ (d : ℕ). not (eqb (f d) v)) (upFrom a n)) → (d : ℕ) → a ≤ d → d < a + n → f d ≢ v
+  up-never t d h l e = T-not (eqb (f d) v) (up-test (λ (d : ℕ). not (eqb (f d) v)) a n t d h l) (true-holds (eq-eqb (f d) v e))
+
+  pub never-up : ((d : ℕ) → a ≤ d → d < a + n → f d ≢ v) → T (all (λ (d : ℕ). not (eqb (f d) v)) (upFrom a n))
+  never-up h = up-tests (λ (d : ℕ). not (eqb (f d) v)) a n (λ d b l. not-T (eqb (f d) v) (λ t. h d b l (eqb→eq (f d) v t)))
 
 -- a loop that fills an array with f of each number from 0 on
 pub filled-up : {A : Type 0} (f : ℕ → A) (n : ℕ) {size : ℕ} {array : List A} {i : ℕ} {v : A} → Filled (map f (upFrom 0 n)) n size array i → i < n → i < size

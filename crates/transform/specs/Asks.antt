@@ -19,10 +19,11 @@ pub record TableOf (n : ℕ) (t : List ℕ) : Type 0 where
   pub base : ℕ
   pub table : GeneratorTable base n t
 
--- u and w may be convolved modulo q
+-- u and w are residues modulo q, of one length
 pub record Convolvable (q : ℕ) (u w : List ℕ) : Type 0 where
   pub size : length w ≡ length u
   pub room : length u ≤ maxN
+  pub positive : 0 < q
   pub modulus : q < 2 ^ 20
   pub first : T (areBelow q u)
   pub second : T (areBelow q w)

@@ -1,4 +1,5 @@
 pub mod UpFrom
+pub mod AllExponents
 pub mod Prime
 pub mod Generator
 pub mod Convolution

@@ -53,8 +53,7 @@ fn dot(u: &[u32], v: &[u32; TWICE_MAX_N], k: usize) -> u64
 
 // The cyclic convolution of u and w modulo q. Each result is reduced once.
 pub fn convolve(u: &[u32], w: &[u32], q: u32, out: &mut [u32])
-    requires { ⌜ Convolvable q (now u) (now w) ⌝ }
-    requires { ⌜ (0 < q) × (length (now out) ≡ length (now u)) ⌝ }
+    requires { ⌜ Convolvable q (now u) (now w) × (length (now out) ≡ length (now u)) ⌝ }
     ensures { λ _. ⌜ now (out .exit) ≡ convolution q (now (u .entry)) (now (w .entry)) ⌝ }
 {
     let n = u.len();

@@ -9,7 +9,7 @@ ghost use Rattle.algebra.specs.Integer.{residue, centred};
 ghost use Rattle.parameters.specs.Limits.{maxN};
 ghost use Rattle.parameters.specs.Ring.{Usable};
 ghost use Rattle.polynomial.specs.Evaluation.{evaluations};
-ghost use Rattle.transform.specs.UpFrom.{allExponents};
+ghost use Rattle.transform.specs.AllExponents.{allExponents};
 ghost use Rattle.transform.specs.Prime.{Prime};
 ghost use Rattle.transform.specs.Convolution.{convolution};
 ghost use Rattle.transform.specs.Asks.{TableOf, residuesBackwards, powersInOrder, Places, Placed};
@@ -36,7 +36,7 @@ fn place_back(i: usize, n: usize) -> usize
 }
 
 // The coefficients in the order of a table read backwards from its first entry, reduced to 0..q-1.
-fn reordered_coefficients(coefficients: &[i16], order: &[u16], q: u32) -> [u32; MAX_N]
+fn reordered_coefficients(coefficients: &[i16], order: &[u32], q: u32) -> [u32; MAX_N]
     requires { ⌜ (0 < q) × (length (now order) ≤ maxN) × T (areBelow (length (now coefficients)) (now order)) ⌝ }
     ensures { λ r. ⌜ take (length (now (order .entry))) r ≡ residuesBackwards q (now (coefficients .entry)) (now (order .entry)) ⌝ }
 {
@@ -52,7 +52,7 @@ fn reordered_coefficients(coefficients: &[i16], order: &[u16], q: u32) -> [u32; 
 }
 
 // The powers of g in the order of a table.
-fn reordered_powers(powers: &[u32; MAX_N], order: &[u16]) -> [u32; MAX_N]
+fn reordered_powers(powers: &[u32; MAX_N], order: &[u32]) -> [u32; MAX_N]
     requires { ⌜ (length (now order) ≤ maxN) × T (areBelow maxN (now order)) ⌝ }
     ensures { λ r. ⌜ take (length (now (order .entry))) r ≡ powersInOrder (now (powers .entry)) (now (order .entry)) ⌝ }
 {
@@ -83,11 +83,12 @@ fn centred_sum(a: u32, b: u32, q: u32) -> i32
 }
 
 // Coefficient 0 plus each number of the convolution, in signed form, at the place of its exponent.
-fn place_values(first: u32, sums: &[u32], order: &[u16], q: u32, out: &mut [i32])
-    requires { ⌜ (first < q) × (q < 2 ^ 31) × (length (now sums) ≡ length (now order)) × T (areBelow q (now sums)) ⌝ }
-    requires { ⌜ Places (length (now out)) (now order) ⌝ }
+fn place_values(first: u32, sums: &[u32], order: &[u32], q: u32, out: &mut [i32])
+    requires { ⌜ (first < q) × (q < 2 ^ 31) × T (areBelow q (now sums)) ⌝ }
+    requires { ⌜ (length (now sums) ≡ length (now order)) × (length (now out) ≡ length (now order)) × Places (length (now out)) (now order) ⌝ }
     ensures size { λ _. ⌜ length (now (out .exit)) ≡ length (now (out .entry)) ⌝ }
-    ensures each { λ _. ⌜ Placed (now (order .entry)) (λ m. centred (pos (first + getD (now (sums .entry)) m 0)) q) (now (out .exit)) (length (now (order .entry))) ⌝ }
+    ensures each { λ _. ⌜ Placed (now (order .entry)) (λ m. centred (pos (first + getD (now (sums .entry)) m 0)) q) (now (out .exit))
+        (length (now (order .entry))) ⌝ }
 {
     let mut m: usize = 0;
     while m < order.len() {
@@ -101,7 +102,7 @@ fn place_values(first: u32, sums: &[u32], order: &[u16], q: u32, out: &mut [i32]
 fn convolve_reordered(
     p: Params,
     powers: &[u32; MAX_N],
-    order: &[u16],
+    order: &[u32],
     coefficients: &[i16],
     sums: &mut [u32],
 )
@@ -122,7 +123,7 @@ fn convolve_reordered(
 pub fn evaluate_all(
     p: Params,
     powers: &[u32; MAX_N],
-    order: &[u16],
+    order: &[u32],
     coefficients: &[i16],
     out: &mut [i32],
 )

@@ -1,8 +1,8 @@
 // The powers of the least generator of the nonzero residues modulo N, from power 0 on, for each parameter set: of 2, 5, 5, 11, 5.
 
-pub const POWERS_0: [u16; 4] = [1, 2, 4, 3];
+pub const POWERS_0: [u32; 4] = [1, 2, 4, 3];
 
-pub const POWERS_1: [u16; 432] = [
+pub const POWERS_1: [u32; 432] = [
     1,
     5,
     25,
@@ -437,7 +437,7 @@ pub const POWERS_1: [u16; 432] = [
     260,
 ];
 
-pub const POWERS_2: [u16; 576] = [
+pub const POWERS_2: [u32; 576] = [
     1,
     5,
     25,
@@ -1016,7 +1016,7 @@ pub const POWERS_2: [u16; 576] = [
     231,
 ];
 
-pub const POWERS_3: [u16; 768] = [
+pub const POWERS_3: [u32; 768] = [
     1,
     11,
     121,
@@ -1787,7 +1787,7 @@ pub const POWERS_3: [u16; 768] = [
     70,
 ];
 
-pub const POWERS_4: [u16; 1152] = [
+pub const POWERS_4: [u32; 1152] = [
     1,
     5,
     25,

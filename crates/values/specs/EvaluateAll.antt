@@ -9,7 +9,7 @@ use lib.ListN.{length}
 use Rattle.parameters.specs.declared.Params.{Params}
 use Rattle.parameters.specs.Sets.{setOf}
 use Rattle.polynomial.specs.Evaluation.{evaluations}
-use Rattle.transform.specs.UpFrom.{allExponents}
+use Rattle.transform.specs.AllExponents.{allExponents}
 use Rattle.refusal.specs.Answer.{inSet, unlessRefused}
 use Rattle.refusal.specs.Numbers.{wrongLength}
 

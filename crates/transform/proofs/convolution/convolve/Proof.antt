@@ -1,6 +1,6 @@
 -- `convolve` meets its contract: each turn reduces one sum, which is the convolution at its place.
 -- Assumes nothing.
-use mathlib.Core.Path.{_≡_, subst, ap, _∙_}
+use mathlib.Core.Path.{subst, ap, _∙_}
 use mathlib.Core.List.{List, map}
 use Prim.Native.Nat.{ℕ, _-_, _^_}
 use native.Mathlib.Omega.{arith}
@@ -55,6 +55,7 @@ unfolding convolution
 convolve-spec =
     tie.close
     (tie.spec Inv-loop μ-loop (λ c κs. let ask = c .before .before .before .pre .0 in omega (arith, ask .size, ask .room))
-    (λ c. let s = c .before .before .before .before in filled-none (up-map-length _ 0 (length (s .args .u .now))) (s .pre .1 .1)) (λ c. search needs)
-    (λ c. search needs) dot-requires (λ c κs. search needs) (λ c. search needs) (λ c. search needs) (λ c. search needs) (λ c. search needs) loop-again
-    (λ c. search needs) (λ c. filled-all (c .before .loop .inv) (omega arith) (omega arith)))
+    (λ c. let s = c .before .before .before .before in filled-none (up-map-length _ 0 (length (s .args .u .now))) (s .pre .1)) (λ c. search needs)
+    (λ c. search needs) dot-requires
+    (λ c κs. c .before .before .before .before .before .before .before .before .pre .0 .positive) (λ c. search needs) (λ c. search needs) (λ c. search needs)
+    (λ c. search needs) loop-again (λ c. search needs) (λ c. filled-all (c .before .loop .inv) (omega arith) (omega arith)))

@@ -1,6 +1,6 @@
 -- `convolve_reordered` meets its contract: both lists have residues, as many as the table has entries.
 -- Assumes nothing.
-use mathlib.Core.Path.{_≡_, sym, ap₂, _∙_}
+use mathlib.Core.Path.{sym, ap₂, _∙_}
 use Prim.Native.Nat.{_<_}
 use native.Mathlib.Omega.{arith}
 use lib.ListN.{length}
@@ -30,12 +30,6 @@ reordered-powers-requires c κs =
     let s = c .before .before .before in
     (omega (arith, count s), table-below (s .pre .1 .0 .0 .above) (s .pre .1 .0 .1 .table) maxN (s .pre .0 .fitting .size))
 
-room-u : tie.Need-array-share-prefix-u
-room-u c = search needs
-
-room-w : tie.Need-array-share-prefix-w
-room-w c = search needs
-
 convolve-requires : tie.Need-convolve-requires
 convolve-requires c κs =
     let s = c .before .before .before .before .before .before .before in
@@ -47,11 +41,12 @@ convolve-requires c κs =
       record {
         size = w ∙ sym u;
         room = omega (arith, u, count s);
+        positive = positive s;
         modulus = s .pre .0 .fitting .modulus;
         first = backwards-below (positive s) (a .coefficients .now) (a .order .now);
         second = powers-below (s .pre .0) (s .pre .1 .0 .0) g;
       },
-      (positive s, s .pre .1 .1 .1 ∙ sym u),
+      s .pre .1 .1 .1 ∙ sym u,
     )
 
 returns : tie.Need-returns
@@ -64,5 +59,6 @@ returns c =
 pub convolve-reordered-spec : {M : Type 1} → statement M
 convolve-reordered-spec =
     tie.close
-    (tie.spec reordered-coefficients-requires reordered-powers-requires room-u (λ c. in-front _ _ (room-u (c .before)) .count) room-w
-    (λ c. in-front _ _ (room-w (c .before)) .count) convolve-requires (λ c. search needs) returns)
+    (tie.spec reordered-coefficients-requires reordered-powers-requires (λ c. search needs)
+    (λ c. in-front _ (c .before .before .reordered-coefficients .result) (search needs) .count) (λ c. search needs)
+    (λ c. in-front _ (c .before .before .reordered-powers .result) (search needs) .count) convolve-requires (λ c. search needs) returns)

@@ -62,14 +62,14 @@ place-values-requires c κs =
     let s = start e in
     let q = s .args .p .q in
     let g = s .pre .1 .0 .1 .table in
+    let count = s .pre .1 .1 .1 in
     rw (filled e .front) (
       (
         omega (arith, first-is (e .before .before), residue-below (positive s) (coefficient (s .args .coefficients .now) 0)),
         omega (arith, s .pre .0 .fitting .modulus),
-        values-count s,
         convolution-below (positive s) _ _,
       ),
-      subst (λ (n : ℕ). Places n (s .args .order .now)) (sym (s .pre .1 .1 .1)) (table-places (s .pre .1 .0 .0 .above) g),
+      (values-count s, count ∙ sym (g .size), subst (λ (n : ℕ). Places n (s .args .order .now)) (sym count) (table-places (s .pre .1 .0 .0 .above) g)),
     )
 
 returns : tie.Need-returns
@@ -77,8 +77,8 @@ returns c =
     let e = c .before .before .before .before .before in
     let s = start e in
     let call = c .before .place-values in
-    placed-evaluations (s .pre .0) (s .pre .1 .0 .0) (s .pre .1 .0 .1 .table) (s .args .coefficients .now) (s .pre .1 .1 .0) (call .ensures .0 ∙ s .pre .1 .1 .1)
-    (first-is (e .before .before)) (filled e .front) (call .ensures .1)
+    placed-evaluations (s .pre .0) (s .pre .1 .0 .0) (s .pre .1 .0 .1 .table) (s .args .coefficients .now) (s .pre .1 .1 .0)
+    (call .ensures .0 ∙ s .pre .1 .1 .1) (first-is (e .before .before)) (filled e .front) (call .ensures .1)
 
 pub evaluate-all-spec : {M : Type 1} → statement M
 evaluate-all-spec =

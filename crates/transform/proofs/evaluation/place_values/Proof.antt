@@ -2,7 +2,7 @@
 -- Assumes nothing.
 use mathlib.Core.Path.{_≡_, refl, subst, sym, _∙_}
 use mathlib.Core.List.{List}
-use Prim.Native.Nat.{ℕ, _+_, _-_, _<_, _≤_}
+use Prim.Native.Nat.{ℕ, _+_, _-_, _≤_}
 use native.Mathlib.Omega.{arith}
 use lib.IntN.{ℤ, pos}
 use lib.ListN.{length, getD, length-set}
@@ -28,19 +28,19 @@ abbrev μ-loop : tie.MeasureT-loop
 centred-sum-requires : tie.Need-centred-sum-requires Inv-loop μ-loop
 centred-sum-requires c κs =
     let s = c .before .before .before .before .before .before in
-    (s .pre .0 .0, below-at _ (s .args .sums .now) (s .pre .0 .3) (c .before .before .before .loop .m) (omega arith), s .pre .0 .1)
+    (s .pre .0 .0, below-at _ (s .args .sums .now) (s .pre .0 .2) (c .before .before .before .loop .m) (omega arith), s .pre .0 .1)
 
 place-inside : tie.Need-slice-set-from-out Inv-loop μ-loop
 place-inside c =
     let s = c .before .before .before .before .before .before .before in
     let l = c .before .before .before .before .loop in
-    omega (arith, l .inv .1, s .pre .1 .positive (l .m) (omega arith), s .pre .1 .within (l .m) (omega arith))
+    omega (arith, l .inv .1, s .pre .1 .2 .positive (l .m) (omega arith), s .pre .1 .2 .within (l .m) (omega arith))
 
 loop-again : tie.Need-loop-again Inv-loop μ-loop
 loop-again c =
     let s = c .before .before .before .before .before .before .before in
     let l = c .before .before .before .before .loop in
-    let places = subst (λ (n : ℕ). Places n (s .args .order .now)) (sym (l .inv .1)) (s .pre .1) in (
+    let places = subst (λ (n : ℕ). Places n (s .args .order .now)) (sym (l .inv .1)) (s .pre .1 .2) in (
       omega arith,
       length-set (l .out) _ _ ∙ l .inv .1,
       placed-more (l .inv .2) places (omega arith) (reread w32 (c .centred-sum .result) (c .centred-sum .ok) ∙ c .centred-sum .ensures),
@@ -58,7 +58,7 @@ place-values-spec =
     tie.close
     (tie.spec Inv-loop μ-loop (λ c. (omega arith, refl, placed-none _ _ _)) (λ c. search needs) (λ c. search needs)
     (λ c. omega (arith, c .shared-slice-known3 .given (c .before .before .loop .m)))
-    (λ c. omega (arith, c .before .before .before .before .before .pre .1 .positive (c .before .before .loop .m) (omega arith))) (λ c. search needs)
+    (λ c. omega (arith, c .before .before .before .before .before .pre .1 .2 .positive (c .before .before .loop .m) (omega arith))) (λ c. search needs)
     (λ c. search needs) centred-sum-requires (λ c. omega (arith, place-inside c, c .before .before .before .before .before .before .before .good)) place-inside
     (λ c. search needs) (λ c. search needs)
     loop-again (λ c. search needs) returns)

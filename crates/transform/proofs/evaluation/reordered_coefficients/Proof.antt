@@ -1,6 +1,6 @@
 -- `reordered_coefficients` meets its contract: one coefficient a turn.
 -- Assumes nothing.
-use mathlib.Core.Path.{_≡_, ap, _∙_}
+use mathlib.Core.Path.{ap, _∙_}
 use mathlib.Core.List.{List, map}
 use Prim.Native.Nat.{ℕ, _-_, _%_, _<_}
 use native.Mathlib.Nat.{mod-lt}
@@ -48,8 +48,8 @@ loop-again : tie.Need-loop-again Inv-loop μ-loop
 loop-again c =
     let s = c .before .before .before .before .before .before .before .args in
     let at = getD (s .order .now) (c .before .before .before .place-back .result) 0 in
-    filled-up (value (s .q) (s .coefficients .now) (s .order .now)) (length (s .order .now)) (c .before .before .before .before .before .loop .inv) (omega arith)
-    (omega arith)
+    filled-up (value (s .q) (s .coefficients .now) (s .order .now)) (length (s .order .now)) (c .before .before .before .before .before .loop .inv)
+    (omega arith) (omega arith)
     (c .coefficient-residue .ensures
     ∙ ap (λ (z : ℤ). residue z (s .q)) (reread w16 (coefficient (s .coefficients .now) at) (c .before .coefficient-residue-arg .given))
     ∙ ap (λ (k : ℕ). residue (coefficient (s .coefficients .now) (getD (s .order .now) k 0)) (s .q)) (c .before .before .before .place-back .ensures))

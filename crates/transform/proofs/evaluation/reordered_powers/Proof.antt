@@ -37,5 +37,5 @@ unfolding powersInOrder
 reordered-powers-spec =
     tie.close
     (tie.spec Inv-loop μ-loop (λ c. filled-none (length-map (c .args .order .now) _) (search needs)) (λ c. search needs) (λ c. search needs)
-    (λ c. omega (arith, c .shared-slice-known .given (c .before .before .loop .i))) mul-out-2 element-copy-out-out (λ c. search needs) (λ c. search needs) (λ c. search needs) (λ c. search needs) loop-again
-    (λ c. filled-front (c .before .loop .inv) (omega arith)))
+    (λ c. omega (arith, c .shared-slice-known .given (c .before .before .loop .i))) mul-out-2 element-copy-out-out
+    (λ c. search needs) (λ c. search needs) (λ c. search needs) (λ c. search needs) loop-again (λ c. filled-front (c .before .loop .inv) (omega arith)))

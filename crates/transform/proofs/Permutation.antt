@@ -1,9 +1,9 @@
--- A sequence that takes its first n places to numbers below n: where no two places go to one number, each number is taken, and where each is taken, no two go
--- to one; and a sum goes through them in any order. Shown by counting how often each number is taken.
+-- Permutations: a sequence that takes its first n places to numbers below n. Where no two places go to one number, each number is taken, and where each is
+-- taken, no two go to one; and a sum may go through the numbers in the sequence's order. Shown by counting how often each number is taken.
 -- Assumes nothing.
 use mathlib.Core.Path.{_≡_, refl, sym, ap, ap₂, _∙_}
 use mathlib.Core.Logic.{_≢_}
-use mathlib.Core.Bool.{Bool, true, false, cond}
+use mathlib.Core.Bool.{cond}
 use Prim.Native.Nat.{ℕ, zero, suc, _+_, _≤_, _<_}
 use native.Mathlib.Omega.{arith}
 use lib.Dec.{eqb}
