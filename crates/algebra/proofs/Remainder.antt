@@ -22,6 +22,12 @@ product-below {a} {b} {m} {n} h l = lt-of-le-of-lt (mul-le-mul-left a (le-of-lt 
 pub round-once : {n : ℕ} (s : ℕ) → n ≤ s → s < n + n → s - n ≡ s % n
 round-once {n} s h l = sym (mod-eq-sub-mod h ∙ mod-eq-of-lt (omega arith))
 
+-- so the sum of two numbers below n, where it is not below n
+pub sum-once : {n : ℕ} (a b : ℕ) → b < n → n - b ≤ a → a < n → a - (n - b) ≡ (a + b) % n
+sum-once {n} a b h l g =
+    let e : a - (n - b) ≡ a + b - n = omega arith in
+    e ∙ round-once (a + b) (omega arith) (omega arith)
+
 -- where the n-th power is 1, a power goes by its exponent modulo n
 module _ (g q n : ℕ) (one : g ^ n % q ≡ 1 % q) where
   pow-rounds : (d r : ℕ) → g ^ (d * n + r) % q ≡ g ^ r % q

@@ -43,10 +43,18 @@ pub fn centre(r: u32, q: u32) -> i64
     }
 }
 
+// The same where r is below q: it then fits 32 bits.
+pub fn centre_residue(r: u32, q: u32) -> i32
+    requires { ⌜ (r < q) × (q < 2 ^ 31) ⌝ }
+    ensures { λ e. ⌜ e ≡ centre r q ⌝ }
+{
+    centre(r, q) as i32
+}
+
 // v reduced to the integer of absolute value at most q/2: for an odd q from -(q-1)/2 to (q-1)/2.
 pub fn centred(v: i64, q: u32) -> i32
     requires { ⌜ (0 < q) × (q < 2 ^ 31) ⌝ }
     ensures { λ e. ⌜ e ≡ centred v q ⌝ }
 {
-    centre(residue_of(v, q), q) as i32
+    centre_residue(residue_of(v, q), q)
 }

@@ -1,4 +1,4 @@
--- The sums of a convolution, over one table and another that stands backwards, twice: one turn of each loop, and what the sums are.
+-- A convolution as a list; and its sums, over one table and another that stands backwards, twice: one turn of each loop, and what the sums are.
 -- Assumes nothing.
 use mathlib.Core.Path.{_≡_, refl, sym, ap, ap₂, _∙_}
 use mathlib.Core.List.{List}
@@ -8,17 +8,36 @@ use native.Mathlib.Nat.{mod-eq-of-lt}
 use native.Mathlib.Numerals.{add-one}
 use native.Mathlib.Omega.{arith}
 use borrow.Author.Tests.{eqb-true, eqb-false}
-use lib.Dec.{eqb}
+use lib.Dec.{T, eqb, ltb, lt→ltb}
 use lib.IntN.{ℤ, pos, _+ℤ_}
 use lib.ListN.{length, getD, set, length-set}
 use lib.Seq.{getD-set-same, getD-set-other}
-use Rattle.algebra.specs.Integer.{sum}
+use Rattle.algebra.specs.All.{areBelow}
+use Rattle.algebra.specs.Integer.{residue, sum}
+use Rattle.algebra.proofs.Congruence.{residue-below}
 use Rattle.algebra.proofs.Remainder.{round-once}
 use Rattle.algebra.proofs.Sum.{sum-same}
 use Rattle.algebra.proofs.Test.{by-test, lt-or-le}
 use Rattle.parameters.specs.Limits.{maxN}
 use Rattle.transform.specs.Asks.{dotAt, Twice}
-use Rattle.transform.specs.Convolution.{cyclic, entry}
+use Rattle.transform.specs.Convolution.{cyclic, entry, convolution}
+use Rattle.transform.proofs.UpFrom.{up-map-length, up-map-all, from-zero-at}
+
+-- ---- the list
+module _ (q : ℕ) (u w : List ℕ) where
+  pub convolution-length : length (convolution q u w) ≡ length u
+  unfolding convolution
+  convolution-length = up-map-length _ 0 (length u)
+
+  pub convolution-at : (m : ℕ) → m < length u → getD (convolution q u w) m 0 ≡ residue (cyclic (length u) (entry u) (entry w) m) q
+  unfolding convolution
+  convolution-at m h = from-zero-at (λ (m : ℕ). residue (cyclic (length u) (entry u) (entry w) m) q) (length u) m 0 h
+
+  pub convolution-below : 0 < q → T (areBelow q (convolution q u w))
+  unfolding convolution
+  convolution-below positive =
+      up-map-all (λ (m : ℕ). residue (cyclic (length u) (entry u) (entry w) m) q) (λ (v : ℕ). ltb v q) 0 (length u)
+      (λ m. lt→ltb _ q (residue-below positive (cyclic (length u) (entry u) (entry w) m)))
 
 -- ---- the sum of products
 pub dot-none : (u v : List ℕ) (k : ℕ) → pos 0 ≡ dotAt u v k 0

@@ -33,6 +33,9 @@ pow-mul-mod r i m n =
 pow-next : (r i n : ℕ) → r ^ i % n * r % n ≡ r ^ (i + 1) % n
 pow-next r i n = mod-mul-left (r ^ i) r n ∙ ap (λ (x : ℕ). x % n) (sym (pow-suc r i) ∙ ap (λ (k : ℕ). r ^ k) (sym (add-one i)))
 
+pow-last : (r : ℕ) {n : ℕ} → 1 < n → r ^ (n - 2) % n * r % n ≡ r ^ (n - 1) % n
+pow-last r {n} h = let e : n - 2 + 1 ≡ n - 1 = omega arith in pow-next r (n - 2) n ∙ ap (λ (k : ℕ). r ^ k % n) e
+
 -- ---- where power n - 1 is 1
 module _ (r : ℕ) {n : ℕ} (modulus : 1 < n) (round : r ^ (n - 1) % n ≡ 1) where
   -- r to the i times r to the rest is 1
@@ -51,12 +54,9 @@ module _ (r : ℕ) {n : ℕ} (modulus : 1 < n) (round : r ^ (n - 1) % n ≡ 1) w
           absurd (omega arith)
       positive (suc x) e = omega arith
 
-  pub power-below : (i : ℕ) → r ^ i % n < n
-  power-below i = let positive : 0 < n = omega arith in mod-lt (r ^ i) positive
-
   -- a power as a place, counted from 0
   pub place-below : (i : ℕ) → i < n - 1 → r ^ i % n - 1 < n - 1
-  place-below i l = omega (arith, power-positive i (omega arith), power-below i)
+  place-below i l = let some : 0 < n = omega arith in omega (arith, power-positive i (omega arith), mod-lt (r ^ i) some)
 
   -- where two powers agree, the power of the difference is 1
   difference : (i k : ℕ) → i < k → k ≤ n - 1 → r ^ i % n ≡ r ^ k % n → r ^ (k - i) % n ≡ 1
@@ -110,9 +110,7 @@ module _ (r n : ℕ) (t : List ℕ) where
         size = size;
         first = powers .each 0 (omega arith) ∙ ap (λ (x : ℕ). x % n) (pow-zero r) ∙ mod-eq-of-lt modulus;
         next = λ i l. powers .each (i + 1) l ∙ sym (pow-next r i n) ∙ ap (λ (x : ℕ). x * r % n) (sym (powers .each i (omega arith)));
-        last =
-            let e : n - 2 + 1 ≡ n - 1 = omega arith in
-            ap (λ (x : ℕ). x * r % n) (powers .each (n - 2) (omega arith)) ∙ pow-next r (n - 2) n ∙ ap (λ (k : ℕ). r ^ k % n) e ∙ gen .round;
+        last = ap (λ (x : ℕ). x * r % n) (powers .each (n - 2) (omega arith)) ∙ pow-last r modulus ∙ gen .round;
         each = λ j h l.
             let p = gen .each j h l in
             record { place = p .place; below = omega (arith, p .below); is = powers .each (p .place) (omega (arith, p .below)) ∙ p .is };
@@ -156,20 +154,16 @@ module _ {r n : ℕ} {t : List ℕ} (modulus : 1 < n) (g : GeneratorTable r n t)
         each = λ j h l.
             let p = g .each j h l in
             record { place = p .place; below = omega (arith, p .below, g .size); is = sym (table-power (p .place) (p .below)) ∙ p .is };
-        round =
-            let e : n - 2 + 1 ≡ n - 1 = omega arith in
-            ap (λ (k : ℕ). r ^ k % n) (sym e)
-            ∙ sym (pow-next r (n - 2) n)
-            ∙ ap (λ (x : ℕ). x * r % n) (sym (table-power (n - 2) (omega (arith, g .size))))
-            ∙ g .last;
+        round = sym (pow-last r modulus) ∙ ap (λ (x : ℕ). x * r % n) (sym (table-power (n - 2) (omega (arith, g .size)))) ∙ g .last;
       }
 
   pub table-places : Places (n - 1) t
   table-places =
       let round = table-generator .round in
+      let some : 0 < n = omega arith in
       record {
         positive = λ i l. omega (arith, table-power i l, power-positive r modulus round i (omega (arith, g .size)));
-        within = λ i l. omega (arith, table-power i l, power-below r modulus round i);
+        within = λ i l. omega (arith, table-power i l, mod-lt (r ^ i) some);
         apart = λ i k h l e.
             powers-apart modulus table-generator i k h (omega (arith, g .size)) (sym (table-power i (omega arith)) ∙ e ∙ table-power k l);
       }

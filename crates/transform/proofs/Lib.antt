@@ -7,4 +7,5 @@ pub mod Tables
 pub mod FiveSets
 pub mod ConvolutionLaws
 pub mod Placing
+pub mod ReorderedLists
 pub mod AllExponents

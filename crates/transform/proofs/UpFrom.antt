@@ -1,4 +1,4 @@
--- Numbers one after the other: the list's entries, and a test of them all.
+-- Numbers one after the other, and a function of each: entries, tests of them all, and a loop that fills an array with them.
 -- Assumes nothing.
 use mathlib.Core.Path.{_≡_, refl, sym, ap, _∙_}
 use mathlib.Core.Bool.{Bool, not}
@@ -59,6 +59,9 @@ map-at f (x ∷ l) (suc i) d e h = map-at f l i d e (le-of-suc-le-suc h)
 
 pub up-map-at : {A : Type 0} (f : ℕ → A) (a n i : ℕ) (d : A) → i < n → getD (map f (upFrom a n)) i d ≡ f (a + i)
 up-map-at f a n i d h = map-at f (upFrom a n) i d 0 (omega (arith, up-length a n)) ∙ ap f (up-at a n i 0 h)
+
+pub from-zero-at : {A : Type 0} (f : ℕ → A) (n i : ℕ) (d : A) → i < n → getD (map f (upFrom 0 n)) i d ≡ f i
+from-zero-at f n i d h = up-map-at f 0 n i d h ∙ ap f (zero-add i)
 
 -- where every value passes a test
 pub up-map-all : {A : Type 0} (f : ℕ → A) (test : A → Bool) (a n : ℕ) → ((i : ℕ) → T (test (f i))) → T (all test (map f (upFrom a n)))

@@ -16,7 +16,7 @@ ghost use Rattle.transform.specs.Asks.{TableOf, residuesBackwards, power
 use crate::convolution::convolve;
 use parameters::MAX_N;
 use parameters::Params;
-use polynomial::remainder::centre;
+use polynomial::remainder::centre_residue;
 use polynomial::remainder::residue_of;
 
 // A coefficient reduced to 0..q-1.
@@ -68,7 +68,8 @@ fn reordered_powers(powers: &[u32; MAX_N], order: &[u32]) -> [u32; MAX_N]
 // a + b modulo q, for a and b in 0..q-1.
 fn plus_mod(a: u32, b: u32, q: u32) -> u32
     requires { ⌜ (a < q) × (b < q) ⌝ }
-    ensures { λ r. ⌜ r ≡ (a + b) % q ⌝ }
+    ensures value { λ r. ⌜ r ≡ (a + b) % q ⌝ }
+    ensures below { λ r. ⌜ r < q ⌝ }
 {
     let left = q - b;
     if a < left { a + b } else { a - left }
@@ -79,7 +80,7 @@ fn centred_sum(a: u32, b: u32, q: u32) -> i32
     requires { ⌜ (a < q) × (b < q) × (q < 2 ^ 31) ⌝ }
     ensures { λ e. ⌜ e ≡ centred (pos (a + b)) q ⌝ }
 {
-    centre(plus_mod(a, b, q), q) as i32
+    centre_residue(plus_mod(a, b, q), q)
 }
 
 // Coefficient 0 plus each number of the convolution, in signed form, at the place of its exponent.

@@ -8,7 +8,7 @@ use borrow.Author.Needs.{needs}
 use Rattle.algebra.proofs.Front.{in-front}
 use Rattle.parameters.specs.Limits.{maxN}
 use Rattle.transform.specs.Convolution.{convolution}
-use Rattle.transform.proofs.AllExponents.{backwards-length, backwards-below, powers-length, powers-below}
+use Rattle.transform.proofs.ReorderedLists.{backwards-length, backwards-below, powers-length, powers-below}
 use Rattle.transform.proofs.GeneratorLaws.{table-below}
 use Rattle.transform.proofs.evaluation.convolve_reordered.Statement.{statement}
 use Rattle.transform.proofs.evaluation.convolve_reordered.Tie as tie
@@ -43,7 +43,7 @@ convolve-requires c κs =
         room = omega (arith, u, count s);
         positive = positive s;
         modulus = s .pre .0 .fitting .modulus;
-        first = backwards-below (positive s) (a .coefficients .now) (a .order .now);
+        first = backwards-below (a .p .q) (a .coefficients .now) (a .order .now) (positive s);
         second = powers-below (s .pre .0) (s .pre .1 .0 .0) g;
       },
       s .pre .1 .1 .1 ∙ sym u,

@@ -15,7 +15,9 @@ use Rattle.algebra.proofs.Signed.{reread}
 use Rattle.polynomial.specs.Polynomial.{coefficient}
 use Rattle.transform.specs.Convolution.{convolution}
 use Rattle.transform.specs.Asks.{residuesBackwards, powersInOrder, Places}
-use Rattle.transform.proofs.AllExponents.{backwards-length, convolution-length, convolution-below, placed-evaluations}
+use Rattle.transform.proofs.AllExponents.{placed-evaluations}
+use Rattle.transform.proofs.ConvolutionLaws.{convolution-length, convolution-below}
+use Rattle.transform.proofs.ReorderedLists.{backwards-length}
 use Rattle.transform.proofs.GeneratorLaws.{table-places}
 use Rattle.transform.proofs.evaluation.evaluate_all.Statement.{statement}
 use Rattle.transform.proofs.evaluation.evaluate_all.Tie as tie
@@ -67,7 +69,7 @@ place-values-requires c κs =
       (
         omega (arith, first-is (e .before .before), residue-below (positive s) (coefficient (s .args .coefficients .now) 0)),
         omega (arith, s .pre .0 .fitting .modulus),
-        convolution-below (positive s) _ _,
+        convolution-below (s .args .p .q) _ _ (positive s),
       ),
       (values-count s, count ∙ sym (g .size), subst (λ (n : ℕ). Places n (s .args .order .now)) (sym count) (table-places (s .pre .1 .0 .0 .above) g)),
     )
