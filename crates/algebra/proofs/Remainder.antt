@@ -1,8 +1,9 @@
 -- Remainders of natural numbers: of products and of powers.
 -- Assumes nothing.
-use mathlib.Core.Path.{_≡_, sym, ap, _∙_}
+use mathlib.Core.Path.{_≡_, refl, sym, ap, _∙_}
 use Prim.Native.Nat.{ℕ, zero, suc, _+_, _-_, _*_, _/_, _%_, _^_, _<_, _≤_}
-use native.Mathlib.Nat.{mod-eq-of-lt, mod-eq-sub-mod, mul-add-mod-self-right, div-add-mod', mul-right-comm, add-mul, suc-mul, zero-mul, one-mul}
+use native.Mathlib.Nat.{mod-eq-of-lt, mod-eq-sub-mod, mul-add-mod-self-right, div-add-mod', mul-right-comm, add-mul, suc-mul, zero-mul, one-mul, mul-zero, mul-comm}
+use native.Mathlib.Nat.{pow-zero, pow-suc}
 use native.Mathlib.Nat.{le-of-lt, mul-le-mul-left, mul-lt-mul-of-pos-right, lt-of-le-of-lt}
 use native.Mathlib.Omega.{arith}
 use lib.Pow.{pow-add}
@@ -38,3 +39,23 @@ module _ (g q n : ℕ) (one : g ^ n % q ≡ 1 % q) where
 
   pub pow-round : (m : ℕ) → g ^ (m % n) % q ≡ g ^ m % q
   pow-round m = sym (pow-rounds (m / n) (m % n)) ∙ ap (λ (x : ℕ). g ^ x % q) (div-add-mod' m n)
+
+-- ---- powers of powers, and of remainders
+pub pow-pow : (a m n : ℕ) → (a ^ m) ^ n ≡ a ^ (m * n)
+pow-pow a m zero = rw (pow-zero, mul-zero, pow-zero) refl
+pow-pow a m (suc n) =
+    pow-suc (a ^ m) n
+    ∙ ap (λ (x : ℕ). x * a ^ m) (pow-pow a m n)
+    ∙ sym (pow-add a (m * n) m)
+    ∙ ap (λ (x : ℕ). a ^ x) (omega (arith, mul-comm m (suc n), suc-mul n m, mul-comm m n))
+
+pub pow-of-mod : (a q n : ℕ) → (a % q) ^ n % q ≡ a ^ n % q
+pow-of-mod a q zero = ap (λ (x : ℕ). x % q) (pow-zero (a % q) ∙ sym (pow-zero a))
+pow-of-mod a q (suc n) =
+    ap (λ (x : ℕ). x % q) (pow-suc (a % q) n)
+    ∙ sym (mod-mul-left ((a % q) ^ n) (a % q) q)
+    ∙ ap (λ (x : ℕ). x * (a % q) % q) (pow-of-mod a q n)
+    ∙ mod-mul-left (a ^ n) (a % q) q
+    ∙ ap (λ (x : ℕ). x % q) (mul-comm (a ^ n) (a % q))
+    ∙ mod-mul-left a (a ^ n) q
+    ∙ ap (λ (x : ℕ). x % q) (mul-comm a (a ^ n) ∙ sym (pow-suc a n))

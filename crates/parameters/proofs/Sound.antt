@@ -16,30 +16,30 @@ use Rattle.parameters.specs.Sets.{row, sets, setOf}
 use Rattle.parameters.specs.Sound.{hold, Sound, soundTests, Fitting, fittingTests, Limited, limitedTests}
 
 -- of tests that all hold, each
-each : (ts : List Bool) → T (hold ts) → (k : ℕ) → k < length ts → T (getD ts k true)
-each ts t = all-at (λ (b : Bool). b) ts true t
+pub of-all : (ts : List Bool) → T (hold ts) → (k : ℕ) → k < length ts → T (getD ts k true)
+of-all ts t = all-at (λ (b : Bool). b) ts true t
 
 sound-of-test : (p : Params) → T (hold (soundTests p)) → Sound p
 sound-of-test p t = record {
-  modulus = ltb→lt 1 (p .q) (each (soundTests p) t 0 (ltb→lt 0 3 tt));
-  cyclic = eqb→eq _ 1 (each (soundTests p) t 1 (ltb→lt 1 3 tt));
-  room = leb→le (p .b) (p .k) (each (soundTests p) t 2 (ltb→lt 2 3 tt));
+  modulus = ltb→lt 1 (p .q) (of-all (soundTests p) t 0 (ltb→lt 0 3 tt));
+  cyclic = eqb→eq _ 1 (of-all (soundTests p) t 1 (ltb→lt 1 3 tt));
+  room = leb→le (p .b) (p .k) (of-all (soundTests p) t 2 (ltb→lt 2 3 tt));
 }
 
 fitting-of-test : (p : Params) → T (hold (fittingTests p)) → Fitting p
 fitting-of-test p t = record {
-  size = leb→le (p .n) _ (each (fittingTests p) t 0 (ltb→lt 0 5 tt));
-  modulus = ltb→lt (p .q) _ (each (fittingTests p) t 1 (ltb→lt 1 5 tt));
-  mask = ltb→lt (p .k) _ (each (fittingTests p) t 2 (ltb→lt 2 5 tt));
-  weight = leb→le (p .b) _ (each (fittingTests p) t 3 (ltb→lt 3 5 tt));
-  exponents = ltb→lt (p .t) (p .n) (each (fittingTests p) t 4 (ltb→lt 4 5 tt));
+  size = leb→le (p .n) _ (of-all (fittingTests p) t 0 (ltb→lt 0 5 tt));
+  modulus = ltb→lt (p .q) _ (of-all (fittingTests p) t 1 (ltb→lt 1 5 tt));
+  mask = ltb→lt (p .k) _ (of-all (fittingTests p) t 2 (ltb→lt 2 5 tt));
+  weight = leb→le (p .b) _ (of-all (fittingTests p) t 3 (ltb→lt 3 5 tt));
+  exponents = ltb→lt (p .t) (p .n) (of-all (fittingTests p) t 4 (ltb→lt 4 5 tt));
 }
 
 limited-of-test : (p : Params) → T (hold (limitedTests p)) → Limited p
 limited-of-test p t = record {
-  size = leb→le (p .n) _ (each (limitedTests p) t 0 (ltb→lt 0 3 tt));
-  weight = leb→le (p .b) _ (each (limitedTests p) t 1 (ltb→lt 1 3 tt));
-  count = leb→le (p .t) _ (each (limitedTests p) t 2 (ltb→lt 2 3 tt));
+  size = leb→le (p .n) _ (of-all (limitedTests p) t 0 (ltb→lt 0 3 tt));
+  weight = leb→le (p .b) _ (of-all (limitedTests p) t 1 (ltb→lt 1 3 tt));
+  count = leb→le (p .t) _ (of-all (limitedTests p) t 2 (ltb→lt 2 3 tt));
 }
 
 -- what tests say of each of the five
@@ -65,7 +65,7 @@ pub set-odd : (s : ℕ) → s < 5 → setOf s .q % 2 ≡ 1
 unfolding sets
 set-odd s h =
     let tests : Params → List Bool = λ (p : Params). eqb (p .q % 2) 1 ∷ [] in
-    eqb→eq (setOf s .q % 2) 1 (each (tests (setOf s)) (in-table tests tt s h) 0 (ltb→lt 0 1 tt))
+    eqb→eq (setOf s .q % 2) 1 (of-all (tests (setOf s)) (in-table tests tt s h) 0 (ltb→lt 0 1 tt))
 
 pub set-limited : (s : ℕ) → Limited (setOf s)
 unfolding sets

@@ -6,19 +6,18 @@ use Prim.Native.Nat.{ℕ, _+_, _-_, _<_}
 use native.Mathlib.Omega.{arith}
 use borrow.Author.Tests.{eqb-true, eqb-false}
 use lib.Dec.{eqb}
-use lib.IntN.{ℤ}
 use lib.ListN.{length, getD, set}
 use lib.Seq.{getD-set-same, getD-set-other}
 use Rattle.algebra.proofs.Test.{by-test}
 use Rattle.transform.specs.Asks.{Places, Placed}
 
-pub placed-none : (t : List ℕ) (value : ℕ → ℤ) (l : List ℤ) → Placed t value l 0
+pub placed-none : {A : Type 0} (t : List ℕ) (value : ℕ → A) (l : List A) → Placed t value l 0
 placed-none t value l = record { each = λ m d h. absurd (omega arith) }
 
 -- one value more, at a place that no earlier value has
-pub placed-more : {t : List ℕ} {value : ℕ → ℤ} {l : List ℤ} {k : ℕ} {v : ℤ} → Placed t value l k → Places (length l) t → k < length t → v ≡ value k
+pub placed-more : {A : Type 0} {t : List ℕ} {value : ℕ → A} {l : List A} {k : ℕ} {v : A} → Placed t value l k → Places (length l) t → k < length t → v ≡ value k
     → Placed t value (set l (getD t k 0 - 1) v) (k + 1)
-placed-more {t} {value} {l} {k} {v} before places h e =
+placed-more {A} {t} {value} {l} {k} {v} before places h e =
     let at = getD t k 0 - 1 in
     record {
       each = λ m d b. by-test (eqb m k)

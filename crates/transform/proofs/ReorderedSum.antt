@@ -33,14 +33,14 @@ module _ {p : Params} {r : ℕ} (sound : Sound p) (several : 1 < p .n) (gen : Ge
   positive = omega (arith, sound .modulus)
 
   -- a power of g goes by its exponent modulo N
-  g-round : (x y : ℕ) → x % p .n ≡ y % p .n → Cong (p .q) (pos (p .g ^ x)) (pos (p .g ^ y))
+  pub g-round : (x y : ℕ) → x % p .n ≡ y % p .n → Cong (p .q) (pos (p .g ^ x)) (pos (p .g ^ y))
   g-round x y e =
       let round = pow-round (p .g) (p .q) (p .n) (sound .cyclic ∙ sym (mod-eq-of-lt (sound .modulus))) in
       eq-residue positive {a = pos (p .g ^ x)} {b = pos (p .g ^ y)} (sym (round x) ∙ ap (λ (k : ℕ). p .g ^ k % p .q) e ∙ round y)
 
   module _ (f : List ℤ) (size : length f ≡ p .n) (m : ℕ) where
     -- the sum with both sequences read forwards
-    forwards : ℕ → ℤ
+    abbrev pub forwards : ℕ → ℤ
     forwards i = coefficient f (r ^ i % p .n) *ℤ reorderedPowers r p (i + m)
 
     module _ (j : ℕ) (at : j % p .n ≡ r ^ m % p .n) where
@@ -58,7 +58,6 @@ module _ {p : Params} {r : ℕ} (sound : Sound p) (several : 1 < p .n) (gen : Ge
           ∙ sym (mod-mod (r ^ (i + m)) (p .n))
 
       one-term : (i : ℕ) → i < p .n - 1 → Cong (p .q) (term p f j (suc (r ^ i % p .n - 1))) (forwards i)
-      unfolding forwards
       one-term i l =
           let e : suc (r ^ i % p .n - 1) ≡ r ^ i % p .n = omega (arith, power-positive r several (gen .round) i (omega arith)) in
           cong-trans (cong-eq (ap (term p f j) e))
@@ -69,7 +68,7 @@ module _ {p : Params} {r : ℕ} (sound : Sound p) (several : 1 < p .n) (gen : Ge
       in-order =
           sum-in-order (λ (i : ℕ). r ^ i % p .n - 1) (p .n - 1) (place-below r several (gen .round)) (each-place several gen) (λ (i : ℕ). term p f j (suc i))
 
-      sum-forwards : Cong (p .q) (sumAt p f j) (coefficient f 0 +ℤ sum forwards (p .n - 1))
+      pub sum-forwards : Cong (p .q) (sumAt p f j) (coefficient f 0 +ℤ sum forwards (p .n - 1))
       sum-forwards =
           let e : length f ≡ suc (p .n - 1) = omega (arith, size) in
           cong-trans
@@ -97,7 +96,7 @@ module _ {p : Params} {r : ℕ} (sound : Sound p) (several : 1 < p .n) (gen : Ge
     back-apart (suc i) k h l e = omega (arith, back-other (suc i) (omega arith) (omega arith), back-other k (omega arith) l)
 
     term-back : (i : ℕ) → i < p .n - 1 → forwards (back i) ≡ reorderedCoefficients r p f i *ℤ reorderedPowers r p ((m + (p .n - 1 - i)) % (p .n - 1))
-    unfolding forwards back
+    unfolding back
     term-back i l =
         let e : p .n - 1 - i + m ≡ m + (p .n - 1 - i) = omega arith in
         ap₂ (λ (x y : ℕ). coefficient f x *ℤ pos (p .g ^ y)) (r-round several gen (p .n - 1 - i))

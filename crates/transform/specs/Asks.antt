@@ -54,5 +54,5 @@ pub record Places (n : ℕ) (t : List ℕ) : Type 0 where
   pub apart : (i k : ℕ) → i < k → k < length t → getD t i 0 ≢ getD t k 0
 
 -- value m stands at the place that the table gives, counted from 1, for each m below k; whatever is read behind the end
-pub record Placed (t : List ℕ) (value : ℕ → ℤ) (l : List ℤ) (k : ℕ) : Type 0 where
-  pub each : (m : ℕ) (d : ℤ) → m < k → getD l (getD t m 0 - 1) d ≡ value m
+pub record Placed {A : Type 0} (t : List ℕ) (value : ℕ → A) (l : List A) (k : ℕ) : Type 0 where
+  pub each : (m : ℕ) (d : A) → m < k → getD l (getD t m 0 - 1) d ≡ value m

@@ -1,0 +1,5 @@
+pub mod Fold
+pub mod Levels
+pub mod Products
+pub mod Sparse
+pub mod Values

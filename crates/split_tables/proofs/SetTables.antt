@@ -1,0 +1,88 @@
+-- The tables of a set are a split's: one arm of the match on a set.
+-- Assumes nothing.
+use mathlib.Core.Path.{_≡_, sym, ap, subst, _∙_}
+use mathlib.Core.List.{List, _++_}
+use Prim.Native.Nat.{ℕ, _+_, _-_, _*_, _<_, _≤_}
+use native.Mathlib.Omega.{arith}
+use lib.Dec.{T, eqb, ltb, ltb→lt, leb→le, eqb→eq}
+use lib.ListN.{length, take, drop, length-append}
+use lib.Seq.{take-at, drop-at, drop-drop}
+use Rattle.parameters.specs.declared.Params.{Params}
+use Rattle.parameters.specs.Sets.{setOf}
+use Rattle.parameters.specs.Sound.{Sound, Fitting}
+use Rattle.parameters.proofs.Sound.{set-sound, set-fitting}
+use Rattle.transform.specs.Generator.{generatorOf, GeneratorTable}
+use Rattle.split_tables.specs.Split.{shapeOf, splitFrom, rootAt, SplitTables, SplitTable}
+use Rattle.split_tables.specs.Test.{splitTests, isSplit}
+use Rattle.split_tables.proofs.TestLaws.{each, twists-of-test, rows-of-test}
+
+-- ---- a table that passes the test, behind the generator's powers
+module _ (p : Params) (base : ℕ) (order table : List ℕ) where
+  tables-of-test : Sound p → Fitting p → GeneratorTable base (p .n) order → T (isSplit p base table)
+      → SplitTables p order (take (shapeOf (p .n) .k) table) (drop (shapeOf (p .n) .k) table)
+  unfolding splitTests
+  tables-of-test sound fitting g t =
+      let k = shapeOf (p .n) .k in
+      let l = shapeOf (p .n) .l in
+      let ts = splitTests p base table in
+      record {
+        from = leb→le splitFrom (p .q) (each ts t 0 tt);
+        to = fitting .modulus;
+        shape = eqb→eq (k * l) (p .n - 1) (each ts t 1 tt);
+        base = base;
+        generator = g;
+        twisted = twists-of-test (p .q) k (shapeOf (p .n) .start) (take k table) (each ts t 3 tt);
+        rowed = rows-of-test p sound base k l (rootAt (p .q) (take k table) k) (drop k table) (each ts t 4 tt);
+      }
+
+  -- the three one after the other
+  pub joined-tables : {t : List ℕ} → GeneratorTable base (p .n) order → length table ≡ 2 * (p .n - 1) → t ≡ order ++ table
+      → (splitFrom ≤ p .q → SplitTables p order (take (shapeOf (p .n) .k) table) (drop (shapeOf (p .n) .k) table)) → SplitTable p t
+  joined-tables {t} g second e tables =
+      let first = g .size in
+      let k = shapeOf (p .n) .k in
+      let front : take (p .n - 1) t ≡ order = ap (take (p .n - 1)) e ∙ take-at order table (p .n - 1) first in
+      let behind : drop (p .n - 1) t ≡ table = ap (drop (p .n - 1)) e ∙ drop-at order table (p .n - 1) first in
+      record {
+        size = ap length e ∙ length-append order table ∙ omega arith;
+        ordered = record { base = base; table = subst (GeneratorTable base (p .n)) (sym front) g };
+        parts = λ h. rw (front, behind, sym (drop-drop k (p .n - 1) t), behind) (tables h);
+      }
+
+-- ---- the arms of the match on a set: s is the number j of the arm, r what was joined
+module _ (order table r : List ℕ) where
+  -- what an arm asks
+  abbrev Joined : ℕ → Type 0
+  Joined s = take (setOf s .n - 1 + length table) r ≡ take (setOf s .n - 1) order ++ table
+
+  abbrev Ordered : ℕ → Type 0
+  Ordered s = GeneratorTable (generatorOf s) (setOf s .n) (take (setOf s .n - 1) order)
+
+  abbrev Answer : ℕ → Type 0
+  Answer s = SplitTable (setOf s) (take (3 * (setOf s .n - 1)) r)
+
+  in-front-is : (s : ℕ) → length table ≡ 2 * (setOf s .n - 1) → Joined s → take (3 * (setOf s .n - 1)) r ≡ take (setOf s .n - 1) order ++ table
+  in-front-is s size e =
+      let count : 3 * (setOf s .n - 1) ≡ setOf s .n - 1 + length table = omega arith in
+      ap (λ (m : ℕ). take m r) count ∙ e
+
+  -- a set with a split
+  pub arm : (j : ℕ) {s : ℕ} → s < 5 → s ≡ j → Ordered s → T (isSplit (setOf j) (generatorOf j) table) → Joined j → Answer s
+  unfolding splitTests
+  arm j {s} known is ordered t joined =
+      let p = setOf j in
+      let size = eqb→eq (length table) (2 * (p .n - 1)) (each (splitTests p (generatorOf j) table) t 2 tt) in
+      let g : Ordered j = subst Ordered is ordered in
+      let below : j < 5 = subst (λ (x : ℕ). x < 5) is known in
+      subst Answer (sym is)
+      (joined-tables p (generatorOf j) (take (p .n - 1) order) table g size (in-front-is j size joined)
+      (λ h. tables-of-test p (generatorOf j) (take (p .n - 1) order) table (set-sound j below) (set-fitting j below) g t))
+
+  -- a set without one
+  pub arm-without : (j : ℕ) {s : ℕ} → s ≡ j → Ordered s → T (ltb (setOf j .q) splitFrom) → length table ≡ 2 * (setOf j .n - 1) → Joined j → Answer s
+  arm-without j {s} is ordered t size joined =
+      let p = setOf j in
+      let g : Ordered j = subst Ordered is ordered in
+      let small = ltb→lt (p .q) splitFrom t in
+      subst Answer (sym is)
+      (joined-tables p (generatorOf j) (take (p .n - 1) order) table g size (in-front-is j size joined) (λ h. absurd (omega arith)))
