@@ -6,7 +6,8 @@ use mathlib.Core.List.{List, [], _∷_}
 use Prim.Native.Nat.{ℕ, zero, suc, _+_, _≤_, _<_}
 use native.Mathlib.Nat.{le-of-suc-le-suc, not-suc-le-zero}
 use native.Mathlib.Numerals.{add-one}
-use lib.Dec.{T, ltb, leb, ltb→lt}
+use native.Mathlib.Omega.{arith}
+use lib.Dec.{T, ltb, leb, ltb→lt, leb→le}
 use lib.ListN.{length, getD, drop, drop-of-length-le}
 use lib.Seq.{drop-cons}
 use Rattle.algebra.proofs.Test.{and-left, and-right}
@@ -31,3 +32,12 @@ increasing-below n from [] t i h = absurd (not-suc-le-zero h)
 increasing-below n from (v ∷ vs) t zero h = ltb→lt v n (and-left (ltb v n) (increasing n (suc v) vs) (and-right (leb from v) _ t))
 increasing-below n from (v ∷ vs) t (suc i) h =
     increasing-below n (suc v) vs (and-right (ltb v n) (increasing n (suc v) vs) (and-right (leb from v) _ t)) i (le-of-suc-le-suc h)
+
+-- and at least what the first is
+pub increasing-least : (n from : ℕ) (vs : List ℕ) → T (increasing n from vs) → (i : ℕ) → i < length vs → from ≤ getD vs i 0
+increasing-least n from [] t i h = absurd (not-suc-le-zero h)
+increasing-least n from (v ∷ vs) t zero h = leb→le from v (and-left (leb from v) _ t)
+increasing-least n from (v ∷ vs) t (suc i) h =
+    let first = leb→le from v (and-left (leb from v) _ t) in
+    let rest = increasing-least n (suc v) vs (and-right (ltb v n) (increasing n (suc v) vs) (and-right (leb from v) _ t)) i (le-of-suc-le-suc h) in
+    omega arith

@@ -1,18 +1,19 @@
 -- The evaluations at points, read from those at all exponents.
 -- Assumes nothing.
 use mathlib.Core.Path.{_≡_, refl, sym, ap, ap₂, _∙_}
+use mathlib.Core.Bool.{true}
 use mathlib.Core.List.{List, [], _∷_, map}
 use Prim.Native.Nat.{ℕ, zero, suc, _+_, _-_, _<_, _≤_}
 use native.Mathlib.Omega.{arith}
-use lib.Dec.{T, ltb, lt→ltb}
 use lib.IntN.{ℤ, pos}
 use lib.ListN.{length, getD}
 use lib.Seq.{ext-getD}
-use Rattle.algebra.specs.All.{areBelow}
 use Rattle.algebra.specs.Integer.{residue, centre}
-use Rattle.algebra.proofs.All.{all-from}
 use Rattle.algebra.proofs.Congruence.{residue-below}
+use Rattle.algebra.proofs.Test.{true-holds}
 use Rattle.parameters.specs.declared.Params.{Params}
+use Rattle.encoding.specs.Encoding.{areExponents}
+use Rattle.encoding.proofs.Testing.{increasing-below, increasing-least}
 use Rattle.polynomial.specs.Evaluation.{sumAt, evaluation, evaluations, evaluationResidue, evaluationResidues}
 use Rattle.transform.specs.UpFrom.{upFrom}
 use Rattle.transform.specs.AllExponents.{allExponents}
@@ -24,9 +25,13 @@ map-same : {A : Type 0} (f g : ℕ → A) (l : List ℕ) → ((i : ℕ) → i < 
 map-same f g [] e = refl
 map-same f g (x ∷ l) e = ap₂ _∷_ (e 0 (omega arith)) (map-same f g l (λ i h. e (suc i) (omega arith)))
 
--- exponents of 1 .. n - 1 are below n, and below what is larger
-pub exponents-below : {n : ℕ} {js : List ℕ} → Exponents n js → T (areBelow n js)
-exponents-below {n} {js} e = all-from (λ (x : ℕ). ltb x n) js 0 (λ i h. lt→ltb (getD js i 0) n (e .below i h))
+-- increasing exponents are in 1 .. N - 1; and so below what is larger
+pub exponents-of : (p : Params) (js : List ℕ) → areExponents p js ≡ true → Exponents (p .n) js
+exponents-of p js rise =
+    record {
+      positive = λ i h. increasing-least (p .n) 1 js (true-holds rise) i h;
+      below = λ i h. increasing-below (p .n) 1 js (true-holds rise) i h;
+    }
 
 pub exponents-within : {n m : ℕ} {js : List ℕ} → n ≤ m → Exponents n js → Exponents m js
 exponents-within le e = record { positive = e .positive; below = λ i h. omega (arith, e .below i h) }

@@ -1,16 +1,17 @@
 // Evaluation at points: by the split in sets that have one, else one point after the other. Both meet one contract.
 ghost use mathlib.Core.Path.{_≡_};
+ghost use mathlib.Core.Bool.{true};
 ghost use Prim.Native.Nat.{_-_, _≤_};
 ghost use lib.Dec.{T};
 ghost use lib.ListN.{length, take};
 ghost use Rattle.parameters.specs.Limits.{maxN};
 ghost use Rattle.parameters.specs.Ring.{Usable};
+ghost use Rattle.encoding.specs.Encoding.{areExponents};
 ghost use Rattle.polynomial.specs.Evaluation.{evaluations, evaluationResidues};
 ghost use Rattle.polynomial.specs.Polynomial.{ternary};
 ghost use Rattle.transform.specs.AllExponents.{allExponents};
 ghost use Rattle.transform.specs.Prime.{Prime};
 ghost use Rattle.split_tables.specs.Split.{SplitTable};
-ghost use Rattle.split.specs.Values.{Exponents};
 use crate::challenge::challenge_values;
 use crate::evaluation::values_of;
 use crate::reading::centre_all;
@@ -32,7 +33,7 @@ pub fn evaluate(
     out: &mut [i32],
 )
     requires { ⌜ Usable p (now powers) × SplitTable p (now split) ⌝ }
-    requires { ⌜ (length (now f) ≡ p .n) × Exponents (p .n) (now exponents) × (length (now out) ≡ length (now exponents)) ⌝ }
+    requires { ⌜ (length (now f) ≡ p .n) × (areExponents p (now exponents) ≡ true) × (length (now out) ≡ length (now exponents)) ⌝ }
     ensures { λ _. ⌜ now (out .exit) ≡ evaluations p (now (f .entry)) (now (exponents .entry)) ⌝ }
 {
     if p.q < SPLIT_FROM {
@@ -53,7 +54,7 @@ pub fn evaluate_residues(
     out: &mut [u32],
 )
     requires { ⌜ Usable p (now powers) × SplitTable p (now split) ⌝ }
-    requires { ⌜ (length (now f) ≡ p .n) × Exponents (p .n) (now exponents) × (length (now out) ≡ length (now exponents)) ⌝ }
+    requires { ⌜ (length (now f) ≡ p .n) × (areExponents p (now exponents) ≡ true) × (length (now out) ≡ length (now exponents)) ⌝ }
     ensures { λ _. ⌜ now (out .exit) ≡ evaluationResidues p (now (f .entry)) (now (exponents .entry)) ⌝ }
 {
     if p.q < SPLIT_FROM {
@@ -109,7 +110,7 @@ pub fn evaluate_challenge(
     out: &mut [u32],
 )
     requires { ⌜ Usable p (now powers) × SplitTable p (now split) × T (ternary (now c)) ⌝ }
-    requires { ⌜ (length (now c) ≡ p .n) × Exponents (p .n) (now exponents) × (length (now out) ≡ length (now exponents)) ⌝ }
+    requires { ⌜ (length (now c) ≡ p .n) × (areExponents p (now exponents) ≡ true) × (length (now out) ≡ length (now exponents)) ⌝ }
     ensures { λ _. ⌜ now (out .exit) ≡ evaluationResidues p (now (c .entry)) (now (exponents .entry)) ⌝ }
 {
     if p.q < SPLIT_FROM {

@@ -9,7 +9,8 @@ use lib.ListN.{length, take}
 use borrow.Author.Needs.{needs}
 use Rattle.algebra.proofs.Front.{in-front}
 use Rattle.polynomial.specs.Evaluation.{evaluationResidues}
-use Rattle.split.proofs.ReadingLaws.{exponents-below, exponents-within, read-residues}
+use Rattle.encoding.proofs.Evaluating.{exponents-below}
+use Rattle.split.proofs.ReadingLaws.{exponents-of, exponents-within, read-residues}
 use Rattle.split.proofs.points.evaluate_challenge.Statement.{statement}
 use Rattle.split.proofs.points.evaluate_challenge.Tie as tie
 
@@ -34,11 +35,11 @@ evaluate-challenge-spec =
     (λ c κs.
     let w = c .before .before in
     let s = start w in
-    (s .pre .0 .0, (sym (size w), (exponents-below (s .pre .1 .1), s .pre .1 .2))))
+    (s .pre .0 .0, (sym (size w), (exponents-below (s .args .p) (s .args .exponents .now) (s .pre .1 .1), s .pre .1 .2))))
     (λ c κs. let s = c .before .before .before .before .before in (s .pre .0 .0, s .pre .0 .1, omega arith, s .pre .1 .0, s .pre .0 .2))
     (λ c κs.
     let s = c .before .before .before .before .before .before .before .before in
-    (exponents-within (s .pre .0 .0 .fitting .size) (s .pre .1 .1), s .pre .1 .2))
+    (exponents-within (s .pre .0 .0 .fitting .size) (exponents-of (s .args .p) (s .args .exponents .now) (s .pre .1 .1)), s .pre .1 .2))
     (λ c. search needs)
     (λ c.
     let w = c .before .before .before .before .before in
@@ -46,4 +47,4 @@ evaluate-challenge-spec =
     (λ c. search needs)
     (λ c.
     let s = c .before .before .before .before .before .before .before .before .before .before .before in
-    c .before .before .read-values .ensures ∙ read-residues (c .before .before .before .before .before .challenge-values .ensures) (s .pre .1 .1)))
+    c .before .before .read-values .ensures ∙ read-residues (c .before .before .before .before .before .challenge-values .ensures) (exponents-of (s .args .p) (s .args .exponents .now) (s .pre .1 .1))))
