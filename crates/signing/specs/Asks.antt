@@ -1,17 +1,17 @@
 -- What the signer's functions ask of their callers.
 -- Assumes nothing.
 use mathlib.Core.Path.{_≡_}
+use mathlib.Core.Bool.{true}
 use mathlib.Core.List.{List}
 use Prim.Native.Nat.{ℕ}
 use lib.Dec.{T}
 use lib.IntN.{ℤ}
 use lib.ListN.{length}
-use Rattle.algebra.specs.All.{areBelow}
 use Rattle.algebra.specs.Integer.{within}
 use Rattle.parameters.specs.declared.Params.{Params}
 use Rattle.polynomial.specs.Polynomial.{ternary}
 use Rattle.polynomial.specs.Sparse.{Sparse}
-use Rattle.encoding.specs.Encoding.{signatureSize}
+use Rattle.encoding.specs.Encoding.{areExponents, signatureSize}
 
 -- a key of the set, as a polynomial
 pub record TernaryKey (p : Params) (f : List ℤ) : Type 0 where
@@ -21,7 +21,7 @@ pub record TernaryKey (p : Params) (f : List ℤ) : Type 0 where
 -- exponents of the set's points
 pub record Points (p : Params) (exponents : List ℕ) : Type 0 where
   pub size : length exponents ≡ p .t
-  pub below : T (areBelow (p .n) exponents)
+  pub rise : areExponents p exponents ≡ true
 
 -- a signature whose bytes fill the buffer: z of 16-bit numbers
 pub record Writable (p : Params) (c z : List ℤ) (out : List ℕ) : Type 0 where

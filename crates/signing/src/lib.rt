@@ -9,6 +9,7 @@ ghost use lib.ListN.{length};
 ghost use Rattle.encoding.specs.Challenge.{entriesOf};
 ghost use Rattle.encoding.specs.Encoding.{signatureSize, signatureBytes};
 ghost use Rattle.polynomial.specs.Sparse.{Sparse};
+ghost use Rattle.split_tables.specs.Split.{SplitTable};
 ghost use Rattle.refusal.specs.Answer.{signingStates};
 ghost use Rattle.scheme.specs.Scheme.{attempt, signatureInRange};
 ghost use Rattle.signing.specs.Asks.{TernaryKey, Points, Writable};
@@ -29,7 +30,6 @@ use parameters::MAX_N;
 use parameters::MAX_T;
 use parameters::Params;
 use parameters::ring_of;
-use polynomial::evaluation::evaluate_residues;
 use polynomial::product::in_range;
 use polynomial::product::in_range16;
 use polynomial::product::z_of;
@@ -41,6 +41,8 @@ use refusal::WRONG_LENGTH;
 use refusal::WRONG_MASK;
 use refusal::set_refusal;
 use refusal::unless;
+use split::points::evaluate_residues;
+use split_tables::split_table;
 
 // Writes a signature's bytes: the set, the challenge's b entries, the N coefficients of z.
 fn encode_signature(p: Params, set: u8, c: &[i8], z: &[i32], out: &mut [u8])
@@ -77,6 +79,7 @@ fn sign_with_challenge(p: Params, set: u8, f: &[i16], c: &[i8], y: &[i16], out: 
 fn sign_with_mask(
     p: Params,
     powers: &[u32; MAX_N],
+    split: &[u32],
     set: u8,
     f: &[i16],
     exponents: &[u16],
@@ -84,7 +87,7 @@ fn sign_with_mask(
     message: &[u8],
     out: &mut [u8],
 ) -> bool
-    requires { ⌜ Usable p (now powers) × TernaryKey p (now f) × Points p (now exponents) ⌝ }
+    requires { ⌜ Usable p (now powers) × TernaryKey p (now f) × Points p (now exponents) × SplitTable p (now split) ⌝ }
     requires { ⌜ (length (now y) ≡ p .n) × (length (now out) ≡ signatureSize p) ⌝ }
     ensures { λ r. ⌜ Attempted set (attempt drawChallenge p (now (exponents .entry)) (now (message .entry)) (now (f .entry)) (now (y .entry)))
         (now (out .entry)) r (now (out .exit)) ⌝ }
@@ -92,7 +95,7 @@ fn sign_with_mask(
     let n = p.n;
     let t = p.t;
     let mut commitment = [0u32; MAX_T];
-    evaluate_residues(p, powers, y, exponents, &mut commitment[..t]);
+    evaluate_residues(p, powers, split, y, exponents, &mut commitment[..t]);
     let drawn = challenge_of(p, &commitment[..t], message);
     if !drawn.complete {
         return false;
@@ -106,6 +109,7 @@ fn sign_with_mask(
 pub fn sign_first(
     p: Params,
     powers: &[u32; MAX_N],
+    split: &[u32],
     set: u8,
     f: &[i16],
     exponents: &[u16],
@@ -113,7 +117,7 @@ pub fn sign_first(
     message: &[u8],
     out: &mut [u8],
 ) -> usize
-    requires { ⌜ Usable p (now powers) × TernaryKey p (now f) × Points p (now exponents) ⌝ }
+    requires { ⌜ Usable p (now powers) × TernaryKey p (now f) × Points p (now exponents) × SplitTable p (now split) ⌝ }
     requires { ⌜ length (now out) ≡ signatureSize p ⌝ }
     ensures { λ r. ⌜ Offered set (offeredCount p (now (masks .entry)))
         (signedBy drawChallenge p (now (f .entry)) (now (exponents .entry)) (now (masks .entry)) (now (message .entry)))
@@ -125,7 +129,17 @@ pub fn sign_first(
     while i < count {
         let at = i * n;
         let to = at + n;
-        if sign_with_mask(p, powers, set, f, exponents, &masks[at..to], message, out) {
+        if sign_with_mask(
+            p,
+            powers,
+            split,
+            set,
+            f,
+            exponents,
+            &masks[at..to],
+            message,
+            out,
+        ) {
             return i;
         }
         i += 1;
@@ -167,6 +181,7 @@ fn sign_refusal(p: Params, key: &[u8], exponents: &[u16], masks: &[i16], room: u
 pub fn sign_in(
     p: Params,
     powers: &[u32; MAX_N],
+    split: &[u32],
     set: u8,
     key: &[u8],
     exponents: &[u16],
@@ -174,7 +189,7 @@ pub fn sign_in(
     message: &[u8],
     out: &mut [u8],
 ) -> Signing
-    requires { ⌜ Usable p (now powers) ⌝ }
+    requires { ⌜ Usable p (now powers) × SplitTable p (now split) ⌝ }
     ensures answer { λ r. ⌜ r ≡ signAnswerIn drawChallenge p (set ∷ now (key .entry)) (now (exponents .entry))
         (now (masks .entry)) (now (message .entry)) (now (out .entry)) ⌝ }
     ensures written { λ _. ⌜ now (out .exit) ≡ signWrittenIn drawChallenge p (set ∷ now (key .entry)) (now (exponents .entry))
@@ -186,7 +201,17 @@ pub fn sign_in(
     }
     let n = p.n;
     let f = decode_secret_key(p, key);
-    let passed = sign_first(p, powers, set, &f[..n], exponents, masks, message, out);
+    let passed = sign_first(
+        p,
+        powers,
+        split,
+        set,
+        &f[..n],
+        exponents,
+        masks,
+        message,
+        out,
+    );
     if passed < masks.len() / n {
         let number = passed as u8;
         Signing::Signed(number)
@@ -221,9 +246,12 @@ pub fn sign(
     let ring = ring_of(set);
     let p = ring.params;
     let powers = ring.powers;
+    let table = split_table(set);
+    let size = 3 * (p.n - 1);
     sign_in(
         p,
         &powers,
+        &table[..size],
         set,
         &secret_key[1..],
         exponents,

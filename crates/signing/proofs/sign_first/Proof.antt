@@ -13,29 +13,29 @@ use Rattle.signing.proofs.sign_first.Statement.{statement}
 use Rattle.signing.proofs.sign_first.Tie as tie
 
 abbrev Inv-loop : tie.InvT-loop
-Inv-loop p powers set f exponents masks message out₀ n count i₀ out i =
+Inv-loop p powers split set f exponents masks message out₀ n count i₀ out i =
     (i ≤ offeredCount p masks) × (signedBy drawChallenge p f exponents masks message ≡ signedFrom drawChallenge p f exponents masks message i) × (out ≡ out₀)
 
 abbrev μ-loop : tie.MeasureT-loop
-μ-loop p powers set f exponents masks message out₀ n count i₀ out i = count - i
+μ-loop p powers split set f exponents masks message out₀ n count i₀ out i = count - i
 
 loop-holds : tie.Need-loop-holds Inv-loop μ-loop
 loop-holds c =
-    let a = c .before .before .before .args in
+    let a = c .before .before .before .before .args in
     (zero-le, signed-all drawChallenge (a .p) (a .f .now) (a .exponents .now) (a .masks .now) (a .message .now), refl)
 
 -- the next mask lies within the masks
 end-in-masks : (c : tie.In-loop Inv-loop μ-loop) →
-    let a = c .before .before .before .before .before .args in
+    let a = c .before .before .before .before .before .before .args in
     c .before .loop .i * a .p .n + a .p .n ≤ length (a .masks .now)
 end-in-masks c =
-    let a = c .before .before .before .before .before .args in
+    let a = c .before .before .before .before .before .before .args in
     mask-end (a .p) (a .masks .now) (c .before .loop .i) (c .loop-test .taken)
 
 sign-with-mask-requires : tie.Need-sign-with-mask-requires Inv-loop μ-loop
 sign-with-mask-requires c κs =
     let t = c .before .before in
-    let s = t .before .before .before .before .before in
+    let s = t .before .before .before .before .before .before in
     let m = s .args .masks .now in
     let l = t .before .loop in
     let e = ap length (mask-between (s .args .p) m (l .i)) ∙ mask-size (s .args .p) m (l .i) (t .loop-test .taken) in
@@ -47,12 +47,12 @@ module _ (c : tie.After-sign-with-mask Inv-loop μ-loop) where
   turn = c .before .before .before
 
   abbrev start : tie.Start Inv-loop μ-loop
-  start = turn .before .before .before .before .before
+  start = turn .before .before .before .before .before .before
 
   tried : let a = start .args in
       let l = turn .before .loop in
       Attempted (a .set) (offer drawChallenge (a .p) (a .f .now) (a .exponents .now) (a .masks .now) (a .message .now) (l .i)) (l .out)
-      (c .sign-with-mask .result) (c .sign-with-mask .last .1 .1 .1 .1 .1 .1 .1 .0)
+      (c .sign-with-mask .result) (c .sign-with-mask .last .1 .1 .1 .1 .1 .1 .1 .1 .0)
   tried = rw (mask-between (start .args .p) (start .args .masks .now) (turn .before .loop .i)) at (c .sign-with-mask .ensures)
 
 same-length : tie.Need-same-length Inv-loop μ-loop
@@ -67,7 +67,10 @@ returns c =
     (l .inv .2) (tried w) (c .if1 .taken)
 
 add-i : tie.Need-add-i Inv-loop μ-loop
-add-i c = let a = start (c .before .before .before) .args in omega (arith, div-le-self (length (a .masks .now)) (a .p .n))
+add-i c =
+    let w = c .before .before .before in
+    let a = start w .args in
+    omega (arith, div-le-self (length (a .masks .now)) (a .p .n), start w .good)
 
 loop-again : tie.Need-loop-again Inv-loop μ-loop
 loop-again c =
@@ -80,13 +83,13 @@ loop-again c =
 
 returns-2 : tie.Need-returns-2 Inv-loop μ-loop
 returns-2 c =
-    let a = c .before .before .before .before .before .args in
+    let a = c .before .before .before .before .before .before .args in
     let l = c .before .loop in
     none-offered drawChallenge (a .p) (a .f .now) (a .exponents .now) (a .masks .now) (a .message .now) (l .i) (c .loop-test .left) (l .inv .1) (l .inv .2)
 
 pub sign-first-spec : {M : Type 1} → statement M
 sign-first-spec =
     tie.close
-    (tie.spec Inv-loop μ-loop (λ c. omega (arith, c .before .before .before .pre .0 .0 .fitting .exponents)) loop-holds (λ c. omega (arith, end-in-masks c))
+    (tie.spec Inv-loop μ-loop (λ c. omega (arith, c .before .before .before .before .pre .0 .0 .fitting .exponents)) loop-holds (λ c. omega (arith, end-in-masks c))
     (λ c. omega (arith, end-in-masks c)) (λ c. omega (arith, end-in-masks c)) (λ c. omega arith) (λ c. omega arith) end-in-masks sign-with-mask-requires
     same-length returns add-i (λ c. omega arith) loop-again (λ c. ap length (c .before .loop .inv .2)) returns-2)

@@ -16,7 +16,6 @@ use Rattle.algebra.proofs.Test.{and-right, true-holds}
 use Rattle.polynomial.specs.Polynomial.{ternary}
 use Rattle.challenge.specs.Draw.{drawChallenge}
 use Rattle.encoding.specs.Encoding.{isKey, keyOf}
-use Rattle.encoding.proofs.Evaluating.{exponents-below}
 use Rattle.encoding.proofs.EncodedKey.{key-ternary}
 use Rattle.scheme.specs.Scheme.{Signed}
 use Rattle.refusal.specs.declared.Signing.the-variants as answer
@@ -40,7 +39,7 @@ answer-none (some s) count l e h = absurd (omega (arith, l s refl))
 -- what holds where there is no refusal
 module _ (c : tie.Else1) where
   abbrev start : tie.Start
-  start = c .before .before .before .before .before .before
+  start = c .before .before .before .before .before .before .before
 
   -- the key with its set byte
   abbrev key : List ℕ
@@ -93,9 +92,10 @@ sign-first-requires c κs =
     let a = allowed (d .before) in
     let s = start (d .before) in (
       (
-        s .pre,
+        s .pre .0,
         record { size = sym (decoded d .count); small = subst (λ (l : List ℤ). T (ternary l)) (sym (key-is d)) (key-ternary (key (d .before)) (a .ternary)) },
-        record { size = a .exponents-size; below = exponents-below (s .args .p) (s .args .exponents .now) (a .exponents-rise) },
+        record { size = a .exponents-size; rise = a .exponents-rise },
+        s .pre .1,
       ),
       a .room-size,
     )
@@ -106,7 +106,7 @@ module _ (c : tie.After-sign-first) where
   d = c .before .before .before
 
   says : Offered (start (d .before) .args .set) (count (d .before)) (signed (d .before)) (start (d .before) .args .out .now) (c .sign-first .result)
-      (c .sign-first .last .1 .1 .1 .1 .1 .1 .1 .0)
+      (c .sign-first .last .1 .1 .1 .1 .1 .1 .1 .1 .0)
   says = rw (key-is d) at (c .sign-first .ensures)
 
 returns-2 : tie.Need-returns-2
@@ -127,6 +127,6 @@ pub sign-in-spec : {M : Type 1} → statement M
 sign-in-spec =
     tie.close
     (tie.spec (λ c κs. search needs) returns (λ c κs. (search needs, omega (arith, allowed c .key-size))) (λ c. decoded c .room)
-    (λ c. decoded (c .before) .count) sign-first-requires (λ c. omega (arith, start (d (c .before .before) .before) .pre .fitting .exponents))
+    (λ c. decoded (c .before) .count) sign-first-requires (λ c. omega (arith, start (d (c .before .before) .before) .pre .0 .fitting .exponents))
     (λ c. omega (arith, few (d (c .before .before .before) .before)))
     (λ c. search needs) returns-2 (λ c. search needs) returns-3)

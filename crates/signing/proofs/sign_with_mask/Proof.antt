@@ -20,22 +20,22 @@ use Rattle.signing.proofs.sign_with_mask.Statement.{statement}
 use Rattle.signing.proofs.sign_with_mask.Tie as tie
 
 count : tie.Need-slice-aggregate-evaluate-residues
-count c = in-front (c .before .before .before .before .args .p .t) (replicate {A = ℕ} 1152 0) (search needs) .count
+count c = in-front (c .before .before .before .before .before .args .p .t) (replicate {A = ℕ} 1152 0) (search needs) .count
 
 evaluate-residues-requires : tie.Need-evaluate-residues-requires
 evaluate-residues-requires c κs =
-    let s = c .before .before .before .before in
-    let (usable, key, exponents) = s .pre .0 in
-    (usable, (s .pre .1 .0, (exponents .below, sym (count c) ∙ sym (exponents .size))))
+    let s = c .before .before .before .before .before in
+    let (usable, key, exponents, split) = s .pre .0 in
+    ((usable, split), (s .pre .1 .0, exponents .rise, sym (count c) ∙ sym (exponents .size)))
 
 -- the commitment stands in front of the array
 module _ (c : tie.After-evaluate-residues) where
   abbrev start : tie.Start
-  start = c .before .before .before .before .before
+  start = c .before .before .before .before .before .before
 
   committed : let s = start .args in
       InFront (s .p .t) (evaluationResidues (s .p) (s .y .now) (s .exponents .now))
-      (c .evaluate-residues .last .1 .1 .1 .1 .0 ++ drop (s .p .t) (replicate 1152 0))
+      (c .evaluate-residues .last .1 .1 .1 .1 .1 .0 ++ drop (s .p .t) (replicate 1152 0))
   committed =
       let s = start .args in
       let size = length-evaluation-residues (s .p) (s .y .now) (s .exponents .now) ∙ start .pre .0 .2 .size in
@@ -78,7 +78,7 @@ sign-with-challenge-requires : tie.Need-sign-with-challenge-requires
 sign-with-challenge-requires c κs =
     let d = c .before .before .before .before .before in
     let s = start (w d) in
-    let (usable, key, exponents) = s .pre .0 in
+    let (usable, key, exponents, split) = s .pre .0 in
     ((usable .sound, usable .fitting, key, sparse d (not-false _ (c .before .before .before .if1 .left))), s .pre .1)
 
 returns-2 : tie.Need-returns-2
