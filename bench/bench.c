@@ -1,11 +1,15 @@
 /* Measures the kit's functions beside plain C of the same method, on the same input, in one run: least and middle time of many rounds in
    microseconds, and the ratios. A difference in what the two compute ends the run. Evaluation at all exponents, 1 to N-1, has its own method, and is
-   measured beside N-1 plain evaluations: those of plain C, and in a table of its own those of the kit. */
+   measured beside N-1 plain evaluations: those of plain C, and in a table of its own those of the kit. With HAVE_FFTW another table has the paper's
+   method, Rader's reordering with FFTW, beside the kit. The last one shows how the kit's evaluation grows. */
 #include "material.h"
+#ifdef HAVE_FFTW
+#include "fftw.h"
+#endif
 
 /* what each side writes */
 static struct result {
-    uint8_t digest[64], signature[2379], rows[ROW_BUFFER];
+    uint8_t digest[64], public_key[3001], signature[2379], rows[ROW_BUFFER];
     int8_t challenge[1153];
     int32_t values[1152];
     uint32_t answer;
@@ -54,6 +58,22 @@ static void ours_evaluates(void) { passign_evaluate(set, masks[0], in_use()->n, 
 static void plain_evaluates_each(void) { plain_evaluates_at(exponents, in_use()->n - 1); }
 static void ours_evaluates_each(void) { harness_evaluate(set, masks[0], in_use()->n, exponents, in_use()->n - 1, plain.values, in_use()->n - 1); }
 static void ours_evaluates_all(void) { passign_evaluate_all(set, masks[0], in_use()->n, ours.values, in_use()->n - 1); }
+static void plain_publishes(void)
+{
+    const struct plain_set *s = in_use();
+    int16_t f[1153];
+    uint32_t values[600];
+    uint8_t *to = plain.public_key;
+    for (size_t i = 0; i < s->n; i++)
+        f[i] = (int8_t)secret_key[1 + i];
+    plain_evaluate(s, powers, f, points, s->t, values);
+    *to++ = set;
+    for (size_t i = 0; i < s->t; i++)
+        *to++ = points[i] >> 8, *to++ = points[i];
+    for (size_t i = 0; i < s->t; i++)
+        *to++ = values[i] >> 16, *to++ = values[i] >> 8, *to++ = values[i];
+}
+static void ours_publishes(void) { passign_public_key(secret_key, 1 + in_use()->n, points, in_use()->t, ours.public_key, 1 + 5 * in_use()->t); }
 static void plain_draws(void) { plain_draw(in_use(), pool, plain.challenge); }
 static void ours_draws(void) { passign_draw(set, pool, sizeof pool, ours.challenge, in_use()->n); }
 static void plain_points(void) { plain_point(in_use(), key, plain.challenge, masks[0], plain.z); }
@@ -78,6 +98,97 @@ static void prepare(uint8_t number)
         exponents[i] = i + 1;
 }
 
+#ifdef HAVE_FFTW
+static struct rader rader;
+
+static void rader_evaluates(void)
+{
+    uint32_t residues[600];
+    rader_evaluate(in_use(), &rader, masks[0], points, in_use()->t, residues);
+    for (size_t i = 0; i < in_use()->t; i++)
+        plain.values[i] = plain_centred(in_use(), residues[i]);
+}
+static void rader_signs(void) { plain.answer = 256 * rader_sign(in_use(), &rader, secret_key, points, masks[0], message, 64, plain.signature); }
+static void rader_checks(void) { plain.answer = 256 * rader_check(in_use(), &rader, public_key, message, 64, signatures[0]); }
+
+static void must(int right)
+{
+    if (right)
+        return;
+    printf("Rader with FFTW is wrong in set %d: install another build of FFTW, or none to measure without it\n", set);
+    exit(1);
+}
+
+/* the coefficients of 16 bits with the largest sum at an exponent */
+static void fill_along(size_t exponent, int16_t *list)
+{
+    for (size_t i = 0; i < in_use()->n; i++)
+        list[i] = plain_centred(in_use(), powers[i * exponent % in_use()->n]) < 0 ? -32768 : 32767;
+}
+
+static void fill_with_any(int16_t *list)
+{
+    for (size_t i = 0; i < in_use()->n; i++)
+        list[i] = next();
+}
+
+/* any coefficients, and those with the largest sums, which leave the fewest bits behind the point */
+static void verify_evaluations(void)
+{
+    static uint32_t of_rader[1152], of_plain[1152];
+    size_t count = in_use()->n - 1;
+    int16_t list[1153];
+    for (size_t e = 1; e <= count; e++) {
+        e % 2 == 0 ? fill_with_any(list) : fill_along(e, list);
+        rader_evaluate(in_use(), &rader, list, exponents, count, of_rader);
+        plain_evaluate(in_use(), powers, list, exponents, count, of_plain);
+        must(memcmp(of_rader, of_plain, count * sizeof *of_rader) == 0);
+    }
+}
+
+/* the kit's signatures, a yes for each, and a no for another message */
+static void verify_signatures(void)
+{
+    uint8_t signature[2379];
+    for (int j = 0; j < MASKS; j++) {
+        must(rader_sign(in_use(), &rader, secret_key, points, masks[j], message, 64, signature));
+        must(memcmp(signature, signatures[j], signature_size()) == 0);
+        must(rader_check(in_use(), &rader, public_key, message, 64, signature));
+        must(!rader_check(in_use(), &rader, public_key, message + 1, 64, signature));
+    }
+}
+
+static void compare_with_paper(void)
+{
+    printf("the paper's method: Rader's reordering with FFTW, in doubles, planned beforehand; its sign and check have the SHA-512 of plain C\n");
+    head("Rader/FFTW", "ours");
+    for (int number = 1; number < 5; number++) {
+        prepare(number);
+        rader_prepare(&rader, in_use(), powers);
+        verify_evaluations();
+        verify_signatures();
+        compare("evaluate", rader_evaluates, ours_evaluates);
+        compare("sign with one mask", rader_signs, ours_signs);
+        compare("check", rader_checks, ours_checks);
+        rader_end(&rader);
+    }
+}
+#else
+static void compare_with_paper(void) {}
+#endif
+
+/* The kit's evaluation is made of (N-1)(K+L) products, where N-1 is K times L: its time is to grow as their number. */
+static void print_growth(void)
+{
+    static const int k_and_l[5][2] = {{0, 0}, {16, 27}, {8, 72}, {6, 128}, {24, 48}};
+    printf("%-28s %10s %10s %10s\n", "growth", "least, us", "(N-1)(K+L)", "ns of each");
+    for (int number = 1; number < 5; number++) {
+        prepare(number);
+        double least = least_of(ours_evaluates), products = (in_use()->n - 1) * (k_and_l[number][0] + k_and_l[number][1]);
+        printf("evaluate, set %d              %10.2f %10.0f %10.3f\n", number, least, products, 1000 * least / products);
+    }
+}
+
 int main(void)
 {
     for (size_t i = 0; i < sizeof message; i++)
@@ -91,6 +202,7 @@ int main(void)
         fill_with_pairs();
         compare("evaluate", plain_evaluates, ours_evaluates);
         compare("evaluate all", plain_evaluates_each, ours_evaluates_all);
+        compare("public key", plain_publishes, ours_publishes);
         compare("draw", plain_draws, ours_draws);
         compare("draw and point", plain_products, ours_products);
         compare("sign with one mask", plain_signs, ours_signs);
@@ -102,5 +214,7 @@ int main(void)
         prepare(number);
         compare("evaluate all, our own", ours_evaluates_each, ours_evaluates_all);
     }
+    compare_with_paper();
+    print_growth();
     return 0;
 }

@@ -14,15 +14,6 @@ static void copy(void)
     __asm__ volatile("" : : "r"(copies[0]) : "memory");
 }
 
-static void nothing(void) {}
-
-static double least_of(void (*call)(void))
-{
-    struct times a, b;
-    measure(call, nothing, &a, &b);
-    return a.least;
-}
-
 static void library_calls(void)
 {
     uint8_t signature[2379];

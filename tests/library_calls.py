@@ -4,7 +4,7 @@ A call's name is ENTRY/SET/KIND/REPEAT. Name and seed alone make it, so that one
 without the calls before it.
 """
 
-from functools import lru_cache
+from functools import lru_cache, partial
 from itertools import combinations
 from random import Random
 from typing import NamedTuple
@@ -87,11 +87,14 @@ GOOD = {"evaluate": evaluate, "evaluate_all": evaluate_all, "draw": draw, "publi
 
 # ── Calls made for one rule ─────────────────────────────────────────────────────────────────────
 
-def evaluate_equal(rng, s):
-    """The largest sums of both signs."""
-    arguments = evaluate(rng, s)
-    arguments["coefficients"] = [rng.choice((-32768, 32767, 0, -1))] * s.N
-    return arguments
+def corners(make, of=""):
+    """A kind of call for each of material.CORNERS: make(rng, s, corner) makes it."""
+    return {of + kind: partial(make, corner=corner) for kind, corner in material.CORNERS.items()}
+
+
+def evaluate_corner(rng, s, corner):
+    """Exponents 1 and N-1 are among the points, here and below."""
+    return {**evaluate(rng, s), "coefficients": corner(rng, s, -32768, 32767), "points": material.points_with_ends(rng, s)}
 
 
 def evaluate_at_end(sign):
@@ -112,24 +115,13 @@ def all_at_end(sign):
     return make
 
 
-def all_of(*values):
-    """These coefficients in turn. Equal ones evaluate to 0, by the largest sums."""
-    def make(rng, s):
-        return at_all(rng, s, (list(values) * s.N)[:s.N])
-    return make
+def all_corner(rng, s, corner):
+    return at_all(rng, s, corner(rng, s, -32768, 32767))
 
 
-def all_extremes(rng, s):
-    return at_all(rng, s, [rng.choice((-32768, 32767)) for _ in range(s.N)])
-
-
-def all_of_one(place):
-    """One coefficient alone is not 0."""
-    def make(rng, s):
-        coefficients = [0] * s.N
-        coefficients[place(rng, s)] = rng.choice((-32768, -1, 1, 32767))
-        return at_all(rng, s, coefficients)
-    return make
+def public_key_corner(rng, s, corner):
+    f = corner(rng, s, -1, 1)
+    return {**public_key(rng, s), "secret_key": encodings.write_secret_key(s, f), "points": material.points_with_ends(rng, s)}
 
 
 def pool_of_values(rng, length, values):
@@ -205,6 +197,17 @@ def sign_tight(rng, s):
     return with_masks(rng, s, f, at, masks, material.message(rng))
 
 
+def sign_key_corner(rng, s, corner):
+    masks = [material.tight_mask(rng, s), material.passing_mask(rng, s)]
+    return with_masks(rng, s, corner(rng, s, -1, 1), material.points_with_ends(rng, s), masks, material.message(rng))
+
+
+def sign_mask_corner(rng, s, corner):
+    """A mask within k, most often passed over, then one within k - 2b, which passes whatever key and challenge are."""
+    masks = [corner(rng, s, -bound, bound) for bound in (s.k, s.k - 2 * s.b)]
+    return with_masks(rng, s, material.key(rng, s), material.points_with_ends(rng, s), masks, material.message(rng))
+
+
 def check_at(beyond):
     """z at k - b, or beyond it with a challenge that fits: a no for its range alone."""
     def make(rng, s):
@@ -220,6 +223,37 @@ def check_of_another_key(rng, s):
     return with_signature(s, other, at, text, material.signature(rng, s, f, at, text))
 
 
+def check_key_corner(rng, s, corner):
+    f, at, text = corner(rng, s, -1, 1), material.points_with_ends(rng, s), material.message(rng)
+    return with_signature(s, f, at, text, material.signature(rng, s, f, at, text))
+
+
+def check_z_corner(rng, s, corner):
+    """A yes up to the ends of the range: with a key of zeros the mask is z."""
+    f, at, text = [0] * s.N, material.points_with_ends(rng, s), material.message(rng)
+    z = corner(rng, s, s.b - s.k, s.k - s.b)
+    return with_signature(s, f, at, text, material.passing_signature(s, f, at, z, text))
+
+
+def check_drawn(wanted):
+    """A yes to a challenge as wanted."""
+    def make(rng, s):
+        f, at, y = material.key(rng, s), material.points_with_ends(rng, s), material.passing_mask(rng, s)
+        text = material.message_drawing(rng, s, at, y, wanted)
+        return with_signature(s, f, at, text, material.passing_signature(s, f, at, y, text))
+    return make
+
+
+def check_in_a_row(first, sign):
+    """Entries with neighbouring indices and one sign: a no, because no search finds a message that draws them, but in set 0 by chance."""
+    def make(rng, s):
+        entries = [i | sign for i in range(first(s), first(s) + s.b)]
+        signature = encodings.write_entries(s, entries, material.within(rng, s, s.k - s.b))
+        f, at = material.key(rng, s), material.points_with_ends(rng, s)
+        return with_signature(s, f, at, material.message(rng), signature)
+    return make
+
+
 def check_any_bytes(rng, s):
     """Entries in order and z in range, but nobody signed."""
     signature = encodings.write_entries(s, material.entries(rng, s), material.within(rng, s, s.k - s.b))
@@ -228,16 +262,20 @@ def check_any_bytes(rng, s):
 
 
 SPECIAL = {
-    "evaluate": {"all equal": evaluate_equal, "upper end": evaluate_at_end(1), "lower end": evaluate_at_end(-1)},
-    "evaluate_all": {"all -32768": all_of(-32768), "all 32767": all_of(32767), "alternating": all_of(-32768, 32767), "extremes": all_extremes,
-                     "zeros": all_of(0), "first alone": all_of_one(lambda rng, s: 0), "last alone": all_of_one(lambda rng, s: s.N - 1),
-                     "one alone": all_of_one(lambda rng, s: rng.randrange(s.N)), "upper end": all_at_end(1), "lower end": all_at_end(-1)},
+    "evaluate": {**corners(evaluate_corner), "upper end": evaluate_at_end(1), "lower end": evaluate_at_end(-1)},
+    "evaluate_all": {**corners(all_corner), "upper end": all_at_end(1), "lower end": all_at_end(-1)},
+    "public_key": corners(public_key_corner),
     "draw": {"zeros": draw_zeros, "wrong pool": draw_wrong_pool, "last value": draw_at_the_last_value,
              "spent at last": draw_spent_at_the_last_value, "skip bound": draw_about_the_skip_bound},
     "sign": {"after failing": sign_after_failing, "none passes": sign_none_passes,
-             "edge": sign_at_the_edge, "tight": sign_tight},
+             "edge": sign_at_the_edge, "tight": sign_tight,
+             **corners(sign_key_corner, "key "), **corners(sign_mask_corner, "mask ")},
     "check": {"z at k-b": check_at(0), "z at k-b+1": check_at(1), "z at k-b+2": check_at(2),
-              "another key": check_of_another_key, "any bytes": check_any_bytes},
+              "another key": check_of_another_key, "any bytes": check_any_bytes,
+              **corners(check_key_corner, "key "), **corners(check_z_corner, "z "),
+              **{f"drawn {kind}": check_drawn(wanted) for kind, wanted in material.CHALLENGES.items()},
+              "first indices": check_in_a_row(lambda s: 0, 0), "first indices, -1": check_in_a_row(lambda s: 0, 0x8000),
+              "last indices": check_in_a_row(lambda s: s.N - s.b, 0), "last indices, -1": check_in_a_row(lambda s: s.N - s.b, 0x8000)},
     **codec_calls.SPECIAL,
 }
 

@@ -1,5 +1,7 @@
 """Random points, keys, masks, messages and signatures, for library calls and sessions alike."""
 
+from math import isqrt
+
 from reference import encodings, signing
 from reference.challenge import draw, pool_of
 from reference.parameters import powers
@@ -21,12 +23,66 @@ def signed(rng, count, bits):
 
 def points(rng, s):
     chosen = rng.sample(range(1, s.N), s.t)
-    if rng.random() < 0.5:  # both ends of 1..N-1
-        inner = [j for j in chosen if j not in (1, s.N - 1)]
-        chosen = [1, s.N - 1] + inner[:s.t - 2]
-        chosen += [j for j in range(2, s.N - 1) if j not in chosen][:s.t - len(chosen)]
-    return sorted(chosen)
+    return with_ends(s, chosen) if rng.random() < 0.5 else sorted(chosen)
 
+
+def points_with_ends(rng, s):
+    return with_ends(s, rng.sample(range(1, s.N), s.t))
+
+
+def with_ends(s, chosen):
+    """Both ends of 1..N-1 for two of the points."""
+    inner = [j for j in chosen if j not in (1, s.N - 1)]
+    return sorted([1, s.N - 1] + inner[:s.t - 2])
+
+
+# ── Coefficients at the ends of low..high ───────────────────────────────────────────────────────
+
+def all_low(rng, s, low, high):
+    """Equal coefficients evaluate to 0, by large sums."""
+    return [low] * s.N
+
+
+def all_high(rng, s, low, high):
+    return [high] * s.N
+
+
+def alternating(rng, s, low, high):
+    return ([low, high] * s.N)[:s.N]
+
+
+def any_ends(rng, s, low, high):
+    return [rng.choice((low, high)) for _ in range(s.N)]
+
+
+def alone(place):
+    """One coefficient alone is not 0."""
+    def make(rng, s, low, high):
+        coefficients = [0] * s.N
+        coefficients[place(rng, s)] = rng.choice((low, -1, 1, high))
+        return coefficients
+    return make
+
+
+def along(sign):
+    """The largest sum at one exponent, often the first or the last, or the least: each power of g times the end of its own sign, or of the other."""
+    def make(rng, s, low, high):
+        j = rng.choice((1, s.N - 1, rng.randrange(1, s.N)))
+        return [high if sign * centred(s, powers(s)[i * j % s.N]) > 0 else low for i in range(s.N)]
+    return make
+
+
+def zeros(rng, s, low, high):
+    return [0] * s.N
+
+
+# By kind, makers that take (rng, s, low, high).
+CORNERS = {"all low": all_low, "all high": all_high, "alternating": alternating, "any ends": any_ends, "zeros": zeros,
+           "first alone": alone(lambda rng, s: 0), "second alone": alone(lambda rng, s: 1), "last alone": alone(lambda rng, s: s.N - 1),
+           "one alone": alone(lambda rng, s: rng.randrange(s.N)), "largest sum": along(1), "least sum": along(-1)}
+
+
+# ── Keys, masks, messages and signatures ────────────────────────────────────────────────────────
 
 def sparse_key(rng, s):
     """Few entries, so that a point stays close to its mask."""
@@ -152,5 +208,44 @@ def edge_signature(rng, s, at, text, beyond):
 
 def signature(rng, s, f, at, text):
     """One that the check says yes to."""
-    c, z = unranged_signature(s, f, at, passing_mask(rng, s), text)
-    return encodings.write_signature(s, c, z)
+    return passing_signature(s, f, at, passing_mask(rng, s), text)
+
+
+def passing_signature(s, f, at, y, text):
+    """One that the check says yes to, of a mask that passes."""
+    return encodings.write_signature(s, *unranged_signature(s, f, at, y, text))
+
+
+# ── Challenges ──────────────────────────────────────────────────────────────────────────────────
+
+def has_first(s, c):
+    return c[0] != 0
+
+
+def has_last(s, c):
+    return c[-1] != 0
+
+
+def has_neighbours(s, c):
+    """Three indices in a row, or both of set 0."""
+    run = min(3, s.b)
+    return any(all(c[i:i + run]) for i in range(s.N - run + 1))
+
+
+def mostly(sign):
+    """All b signs the same would take 2^b tries; in set 0 they are."""
+    return lambda s, c: sign * sum(c) >= min(s.b, 3 * isqrt(s.b))
+
+
+# By kind, what is asked of a challenge of set s.
+CHALLENGES = {"index 0": has_first, "index N-1": has_last, "neighbours": has_neighbours, "mostly positive": mostly(1), "mostly negative": mostly(-1)}
+
+
+def message_drawing(rng, s, at, y, wanted):
+    """A message with which this mask draws a challenge as wanted, found by trying."""
+    commitment = evaluation_residues(s, y, at)
+    while True:
+        text = rng.randbytes(64)
+        c = draw(s, pool_of(commitment, text))
+        if c is not None and wanted(s, c):
+            return text

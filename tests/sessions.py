@@ -155,6 +155,23 @@ def key_at_end(sign):
     return make
 
 
+def corners(rng, s):
+    """Keys at the ends of -1..1, exponents 1 and N-1 among the points, masks at the ends of -k..k and within them; each signature is checked."""
+    w = Writer(rng, s)
+    add(w, 0x01)
+    w.add(0x02, encodings.number_bytes(material.points_with_ends(rng, s), 2))
+    add(w, 0x05)
+    for kind in ("all low", "all high", "first alone", "second alone", "last alone"):
+        w.add(0x03, encodings.write_key(material.CORNERS[kind](rng, s, -1, 1)))
+        mask = rng.choice((material.all_low, material.all_high, material.alternating))
+        for bound in (s.k, s.k - 2 * s.b):
+            w.add(0x04, encodings.number_bytes(mask(rng, s, -bound, bound), 2, signed=True))
+        add(w, 0x06)
+        w.add(0x07, w.signature)
+    w.add(0x00)
+    return bytes(w.file)
+
+
 def passed_over(rng, s):
     """Masks that fail before one that passes; then 06 until 9; then 06 with none held."""
     w = begun(rng, s)
@@ -320,11 +337,11 @@ KINDS = {"signing": signing, "passed over": passed_over, "many masks": many_mask
          "repeated": repeated, "forgets": forgets, "two mistakes": two_mistakes, "cut": cut,
          "cut by one": cut_by_one, "flipped": flipped, "unknown": unknown, "wrong tag": wrong_tag,
          "after end": after_end, "any bytes": any_bytes, "longest": longest,
-         "upper end": key_at_end(1), "lower end": key_at_end(-1)}
+         "upper end": key_at_end(1), "lower end": key_at_end(-1), "corners": corners}
 KINDS |= {f"{command:02X} before 01": before_set(command) for command in range(2, 9)}
 KINDS |= {f"cut inside {command:02X}": cut_inside(command) for command in (1, 2, 3, 4, 5, 7, 8)}
 # One for so many repeats; the kinds for one command are many.
-SELDOM = {"longest": 10, "wrong tag": 3, "upper end": 4, "lower end": 4,
+SELDOM = {"longest": 10, "wrong tag": 3, "upper end": 4, "lower end": 4, "corners": 4,
           **{kind: 10 for kind in KINDS if "before 01" in kind or "cut inside" in kind}}
 OFTEN = {"signing": 2, "walk": 3, "repeated": 2, "flipped": 2}
 
