@@ -1,8 +1,10 @@
 // Signing: the masks are offered in turn and the first that passes signs; then the entry with its refusals.
 ghost use mathlib.Core.Path.{_≡_};
+ghost use mathlib.Core.Bool.{true};
 ghost use mathlib.Core.List.{_∷_};
 ghost use Rattle.challenge.specs.Draw.{drawChallenge};
 ghost use Rattle.parameters.specs.Ring.{Usable};
+ghost use Rattle.parameters.specs.Sets.{isSet, setOf};
 ghost use Rattle.parameters.specs.Sound.{Fitting, Sound};
 ghost use Rattle.signing.specs.Sign.{areWhole, signLengths, signRefusalIn, signAnswerIn, signWrittenIn, signAnswer, signStated, signWritten};
 ghost use lib.ListN.{length};
@@ -106,7 +108,7 @@ fn sign_with_mask(
 
 // Offers the masks in turn, N numbers each, and writes the signature of the first that passes. Answers how many were passed over:
 // all of them where none passes, and then the buffer is as it was.
-pub fn sign_first(
+fn sign_first(
     p: Params,
     powers: &[u32; MAX_N],
     split: &[u32],
@@ -178,7 +180,7 @@ fn sign_refusal(p: Params, key: &[u8], exponents: &[u16], masks: &[i16], room: u
 }
 
 // Signs in a set with a key without its set byte.
-pub fn sign_in(
+fn sign_in(
     p: Params,
     powers: &[u32; MAX_N],
     split: &[u32],
@@ -220,6 +222,39 @@ pub fn sign_in(
     }
 }
 
+// Signs in a set that is looked up, with a key without its set byte.
+pub fn sign_in_set(
+    set: u8,
+    key: &[u8],
+    exponents: &[u16],
+    masks: &[i16],
+    message: &[u8],
+    out: &mut [u8],
+) -> Signing
+    requires { ⌜ isSet set ≡ true ⌝ }
+    ensures answer { λ r. ⌜ r ≡ signAnswerIn drawChallenge (setOf set) (set ∷ now (key .entry)) (now (exponents .entry))
+        (now (masks .entry)) (now (message .entry)) (now (out .entry)) ⌝ }
+    ensures written { λ _. ⌜ now (out .exit) ≡ signWrittenIn drawChallenge (setOf set) (set ∷ now (key .entry)) (now (exponents .entry))
+        (now (masks .entry)) (now (message .entry)) (now (out .entry)) ⌝ }
+{
+    let ring = ring_of(set);
+    let p = ring.params;
+    let powers = ring.powers;
+    let table = split_table(set);
+    let size = 3 * (p.n - 1);
+    sign_in(
+        p,
+        &powers,
+        &table[..size],
+        set,
+        key,
+        exponents,
+        masks,
+        message,
+        out,
+    )
+}
+
 // Signs a message with the first of the masks that passes, N numbers each, one after the other. Refuses with 1, 2, 1, 4, 5, 6, 9.
 pub fn sign(
     secret_key: &[u8],
@@ -243,20 +278,5 @@ pub fn sign(
         return Signing::Refused(refusal);
     }
     let set = secret_key[0];
-    let ring = ring_of(set);
-    let p = ring.params;
-    let powers = ring.powers;
-    let table = split_table(set);
-    let size = 3 * (p.n - 1);
-    sign_in(
-        p,
-        &powers,
-        &table[..size],
-        set,
-        &secret_key[1..],
-        exponents,
-        masks,
-        message,
-        out,
-    )
+    sign_in_set(set, &secret_key[1..], exponents, masks, message, out)
 }

@@ -2,15 +2,10 @@
 -- Assumes nothing.
 use mathlib.Core.Path.{_≡_, refl, sym, _∙_}
 use mathlib.Core.Bool.{false}
-use Prim.Native.Nat.{_-_, _*_, _≤_}
-use native.Mathlib.Omega.{arith}
-use lib.ListN.{length, take}
 use borrow.Author.Needs.{needs}
-use borrow.Author.Tests.{lt-ltb, le-ltb, ne-eqb, ltb-true}
-use Rattle.parameters.specs.declared.Params.{Params}
+use borrow.Author.Tests.{lt-ltb, le-ltb, ne-eqb}
 use Rattle.refusal.specs.Answer.{isLong}
 use Rattle.refusal.proofs.SetRefusal.{some-bytes, set-and-rest, has-set}
-use Rattle.split_tables.specs.Split.{SplitTable}
 use Rattle.signing.specs.Sign.{signRefusal, signAnswer, signWritten}
 use Rattle.signing.proofs.Stated.{stating}
 use Rattle.signing.proofs.Entry.{Known, set-refused, answer-entry, written-entry}
@@ -38,43 +33,16 @@ returns-2 c =
 
 returns-3 : tie.Need-returns-3
 returns-3 c =
-    let g = c .before .before .before .before .before .before .before .before .before .before .before in
-    let k = known (g .before .before) in
-    let s = g .before .before .before .before .before .before .before .before .before .args in
+    let g = c .before .before .before .before .before in
+    let k = known (g .before) in
+    let s = g .before .before .before .before .before .before .before .before .args in
     stating _ _ _ _ _ (rw (
       answer-entry (s .secret-key .now) (s .exponents .now) (s .masks .now) (s .message .now) (s .out .now) k,
       written-entry (s .secret-key .now) (s .exponents .now) (s .masks .now) (s .message .now) (s .out .now) k,
-      ← g .ring-of .ensures .params,
-    ) (rw (set-and-rest (k .set)) at (c .before .before .sign-in .ensures)))
-
--- the table of the set, in front of its array
-module _ (c : tie.After-split-table) where
-  abbrev ring : tie.After-ring-of
-  ring = c .before .before .before
-
-  abbrev p : Params
-  p = ring .ring-of .result .params
-
-  lent : SplitTable p (take (3 * (p .n - 1)) (c .split-table .result))
-  lent = rw (ring .ring-of .ensures .params) (c .split-table .ensures)
-
-  table-length : length (c .split-table .result) ≡ 3456
-  table-length = search needs
-
-  room : 3 * (p .n - 1) ≤ 3456
-  room = omega (arith, ring .ring-of .ensures .usable .fitting .size)
+    ) (rw (set-and-rest (k .set)) at (c .before .before .sign-in-set .ensures)))
 
 pub sign-spec : {M : Type 1} → statement M
 sign-spec =
     tie.close
-    (tie.spec returns (λ c κs. search needs) returns-2 (λ c. some-bytes (known (c .before) .set)) (λ c κs. known (c .before) .set .set)
-    (λ c κs. ltb-true _ 5 (known (c .before .before .before .before) .set .set))
-    (λ c. omega (arith, ring (c .before) .ring-of .ensures .usable .fitting .exponents))
-    (λ c. record { fits = omega (arith, room (c .before)) })
-    (λ c. omega (arith, room (c .before .before), table-length (c .before .before)))
-    (λ c. sym (lent (c .before .before .before) .size))
-    (λ c. some-bytes (known (c .before .before .before .before .before .before .before .before) .set))
-    (λ c. some-bytes (known (c .before .before .before .before .before .before .before .before) .set))
-    (λ c. search needs)
-    (λ c κs. let t = c .before .before .before .before .before in (ring t .ring-of .ensures .usable, lent t))
-    (λ c. search needs) returns-3)
+    (tie.spec returns (λ c κs. search needs) returns-2 (λ c. some-bytes (known (c .before) .set)) (λ c. some-bytes (known (c .before) .set))
+    (λ c. some-bytes (known (c .before) .set)) (λ c. search needs) (λ c κs. known (c .before .before .before) .set .set) (λ c. search needs) returns-3)
