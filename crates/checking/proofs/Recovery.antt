@@ -1,14 +1,14 @@
--- The recovered commitment: a difference by remainders, the differences as a loop works them out one place a turn, and the evaluations that they are of.
+-- The recovered commitment: a difference by one remainder, the differences as a loop works them out one place a turn, and the evaluations that they are of.
 -- Assumes nothing.
 use mathlib.Core.Path.{_≡_, refl, sym, ap, ap₂, _∙_}
 use mathlib.Core.List.{List, [], _∷_}
-use Prim.Native.Nat.{ℕ, zero, suc, _+_, _-_, _*_, _%_, _<_}
-use native.Mathlib.Nat.{mod-lt, le-of-suc-le-suc, not-suc-le-zero}
+use Prim.Native.Nat.{ℕ, zero, suc, _+_, _-_, _*_, _%_, _<_, _≤_}
+use native.Mathlib.Nat.{le-of-suc-le-suc, not-suc-le-zero}
 use native.Mathlib.Omega.{arith}
 use lib.IntN.{ℤ, pos, _+ℤ_, _-ℤ_}
 use lib.ListN.{length, getD, take}
 use Rattle.algebra.specs.Integer.{residue}
-use Rattle.algebra.proofs.Congruence.{cong-refl, cong-sym, cong-trans, cong-add, cong-neg, cong-residue, residue-eq}
+use Rattle.algebra.proofs.Congruence.{residue-eq}
 use Rattle.algebra.proofs.Ring.{ring, cancel-right}
 use Rattle.parameters.specs.declared.Params.{Params}
 use Rattle.polynomial.specs.Evaluation.{evaluationResidues}
@@ -19,16 +19,13 @@ use Rattle.checking.specs.Asks.{signatureWith, Checkable, Recoverable}
 regroup : (z r q : ℤ) → z -ℤ r +ℤ q +ℤ r ≡ z +ℤ q
 regroup z r q = simp ring
 
--- the product reduced first, and q added so that no difference is negative
-pub difference-is : {q : ℕ} → 0 < q → (z m : ℕ) → (z + q - m % q) % q ≡ residue (pos z -ℤ pos m) q
-difference-is {q} positive z m =
-    let r : ℕ = m % q in
-    let d : ℕ = z + q - r in
-    let e : d + r ≡ z + q * 1 = omega (arith, mod-lt m positive) in
+-- q × q added, so that no difference is negative
+pub difference-is : {q : ℕ} → 0 < q → (z m : ℕ) → m ≤ q * q → (z + q * q - m) % q ≡ residue (pos z -ℤ pos m) q
+difference-is {q} positive z m h =
+    let d : ℕ = z + q * q - m in
+    let e : d + m ≡ z + q * q = omega (arith, h) in
     residue-eq positive {a = pos d} {b = pos z -ℤ pos m}
-    (cong-trans {b = pos z -ℤ pos r}
-    (record { times = pos 1; is = cancel-right (pos d) (pos z -ℤ pos r +ℤ pos (q * 1)) (pos r) (ap pos e ∙ sym (regroup (pos z) (pos r) (pos (q * 1)))) })
-    (cong-add (cong-refl (pos z)) (cong-neg (cong-sym (cong-residue positive (pos m))))))
+    (record { times = pos q; is = cancel-right (pos d) (pos z -ℤ pos m +ℤ pos (q * q)) (pos m) (ap pos e ∙ sym (regroup (pos z) (pos m) (pos (q * q)))) })
 
 pub length-differences : (q : ℕ) (zs vs cs : List ℕ) → length vs ≡ length zs → length cs ≡ length zs → length (differences q zs vs cs) ≡ length zs
 length-differences q [] vs cs h k = refl
@@ -45,7 +42,7 @@ difference-at q (z ∷ zs) (v ∷ vs) (c ∷ cs) zero h k l = refl
 difference-at q (z ∷ zs) (v ∷ vs) (c ∷ cs) (suc i) h k l = difference-at q zs vs cs i (le-of-suc-le-suc h) (le-of-suc-le-suc k) (le-of-suc-le-suc l)
 
 -- the arrays of the code have what they are named for in front
-module _ {p : Params} {powers exponents vs : List ℕ} {c z : List ℤ} (asked : Checkable p powers exponents vs c z) where
+module _ {p : Params} {powers table exponents vs : List ℕ} {c z : List ℤ} (asked : Checkable p powers table exponents vs c z) where
   recoverable : Recoverable (p .q) vs (evaluationResidues p c exponents) (evaluationResidues p z exponents)
   recoverable =
       let fitting = asked .usable .fitting in
@@ -61,20 +58,12 @@ module _ {p : Params} {powers exponents vs : List ℕ} {c z : List ℤ} (asked :
         z-below = evaluation-residues-below (asked .usable .sound) z exponents;
       }
 
-  module _ (wide : List ℤ) (front : take (length c) wide ≡ c) where
-    pub wide-is : take (p .n) wide ≡ c
-    wide-is = ap (λ (n : ℕ). take n wide) (sym (asked .challenge-size)) ∙ front
+  module _ (cs zs : List ℕ) (of-challenge : take (p .t) cs ≡ evaluationResidues p c exponents) (of-z : take (p .t) zs ≡ evaluationResidues p z exponents) where
+    pub front-recoverable : Recoverable (p .q) vs (take (p .t) cs) (take (p .t) zs)
+    front-recoverable = rw (of-challenge, of-z) recoverable
 
-    module _ (cs zs : List ℕ) (of-challenge : take (p .t) cs ≡ evaluationResidues p (take (p .n) wide) exponents)
-        (of-z : take (p .t) zs ≡ evaluationResidues p z exponents) where
-      challenge-is : take (p .t) cs ≡ evaluationResidues p c exponents
-      challenge-is = of-challenge ∙ ap (λ (f : List ℤ). evaluationResidues p f exponents) wide-is
-
-      pub front-recoverable : Recoverable (p .q) vs (take (p .t) cs) (take (p .t) zs)
-      front-recoverable = rw (challenge-is, of-z) recoverable
-
-      pub front-recovered : (r : List ℕ) → take (length (take (p .t) zs)) r ≡ differences (p .q) (take (p .t) zs) vs (take (p .t) cs)
-          → take (p .t) r ≡ recovered p (signatureWith c z) exponents vs
-      front-recovered r e =
-          ap (λ (n : ℕ). take n r) (sym (ap length of-z ∙ length-evaluation-residues p z exponents ∙ asked .exponents-size)) ∙ e
-          ∙ ap₂ (λ (zs cs : List ℕ). differences (p .q) zs vs cs) of-z challenge-is
+    pub front-recovered : (r : List ℕ) → take (length (take (p .t) zs)) r ≡ differences (p .q) (take (p .t) zs) vs (take (p .t) cs)
+        → take (p .t) r ≡ recovered p (signatureWith c z) exponents vs
+    front-recovered r e =
+        ap (λ (n : ℕ). take n r) (sym (ap length of-z ∙ length-evaluation-residues p z exponents ∙ asked .exponents-size)) ∙ e
+        ∙ ap₂ (λ (zs cs : List ℕ). differences (p .q) zs vs cs) of-z of-challenge

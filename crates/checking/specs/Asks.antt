@@ -1,7 +1,7 @@
 -- What the verifier and its parts ask of their callers, and what the entry tests before it decodes.
 -- Assumes nothing.
 use mathlib.Core.Path.{_≡_}
-use mathlib.Core.Bool.{Bool, not, _||_, cond}
+use mathlib.Core.Bool.{Bool, true, not, _||_, cond}
 use mathlib.Core.List.{List}
 use Prim.Native.Nat.{ℕ, _^_, _<_, _≤_}
 use lib.Dec.{T, eqb}
@@ -11,7 +11,10 @@ use Rattle.algebra.specs.All.{areBelow}
 use Rattle.parameters.specs.declared.Params.{Params}
 use Rattle.parameters.specs.Limits.{maxT}
 use Rattle.parameters.specs.Ring.{Usable}
+use Rattle.polynomial.specs.Polynomial.{ternary}
+use Rattle.split_tables.specs.Split.{SplitTable}
 use Rattle.challenge.specs.Draw.{drawChallenge}
+use Rattle.encoding.specs.Encoding.{areExponents}
 use Rattle.scheme.specs.Scheme.{Signature, verdict}
 use Rattle.refusal.specs.Answer.{setByte, isLong, inSetOf}
 use Rattle.refusal.specs.Numbers.{wrongLength, wrongSet}
@@ -26,13 +29,15 @@ abbrev pub ruleOf : Params → List ℕ → List ℕ → List ℕ → List ℤ �
 ruleOf p exponents message vs c z = verdict drawChallenge p exponents message vs (signatureWith c z)
 
 -- what the rule asks of the lists that it is handed
-pub record Checkable (p : Params) (powers exponents vs : List ℕ) (c z : List ℤ) : Type 0 where
+pub record Checkable (p : Params) (powers table exponents vs : List ℕ) (c z : List ℤ) : Type 0 where
   pub usable : Usable p powers
+  pub split : SplitTable p table
   pub exponents-size : length exponents ≡ p .t
-  pub exponents-below : T (areBelow (p .n) exponents)
+  pub exponents-rise : areExponents p exponents ≡ true
   pub evaluations-size : length vs ≡ p .t
   pub evaluations-below : T (areBelow (p .q) vs)
   pub challenge-size : length c ≡ p .n
+  pub challenge-ternary : T (ternary c)
   pub z-size : length z ≡ p .n
 
 -- what the differences ask: lists of one length, of evaluations

@@ -1,17 +1,20 @@
 // Checking: the commitment is recovered from the signature and the public evaluations, and its challenge compared with the given one; then the entry.
 ghost use mathlib.Core.Path.{_≡_};
+ghost use mathlib.Core.Bool.{true};
 ghost use Prim.Native.Nat.{_+_, _*_, _^_, _<_, _≤_};
 ghost use lib.Dec.{T};
 ghost use lib.IntN.{pos, _-ℤ_};
 ghost use lib.ListN.{length, take};
-ghost use Rattle.algebra.specs.All.{areBelow};
 ghost use Rattle.algebra.specs.Integer.{residue};
 ghost use Rattle.parameters.specs.Limits.{maxN};
 ghost use Rattle.parameters.specs.Ring.{Usable};
 ghost use Rattle.parameters.specs.Sound.{Limited};
 ghost use Rattle.polynomial.specs.Evaluation.{evaluationResidues};
+ghost use Rattle.polynomial.specs.Polynomial.{ternary};
+ghost use Rattle.split_tables.specs.Split.{SplitTable};
 ghost use Rattle.challenge.specs.Draw.{drawChallenge};
 ghost use Rattle.encoding.specs.Challenge.{challengeOf};
+ghost use Rattle.encoding.specs.Encoding.{areExponents};
 ghost use Rattle.refusal.specs.Answer.{verdictStates};
 ghost use Rattle.scheme.specs.Scheme.{differences, equal, equalℤ, recovered};
 ghost use Rattle.checking.specs.Check.{checkLengths, checkRefusalOf, answerOn, checkAnswer, checkStated};
@@ -31,7 +34,6 @@ use parameters::MAX_T;
 use parameters::Params;
 use parameters::params_of;
 use parameters::ring_of;
-use polynomial::evaluation::evaluate_residues;
 use polynomial::product::in_range16;
 use refusal::Verdict;
 use refusal::WRONG_ENTRIES;
@@ -41,15 +43,17 @@ use refusal::WRONG_LENGTH;
 use refusal::WRONG_SET;
 use refusal::set_refusal;
 use refusal::unless;
+use split::points::evaluate_challenge;
+use split::points::evaluate_residues;
+use split_tables::split_table;
 
-// z - v × c modulo q, for evaluations below q.
+// z - v × c modulo q, for evaluations below q: with q × q added no difference is negative, so that one remainder is enough.
 fn difference(z: u32, v: u32, c: u32, q: u32) -> u32
     requires { ⌜ (z < q) × (v < q) × (c < q) × (q < 2 ^ 20) ⌝ }
     ensures { λ r. ⌜ r ≡ residue (pos z -ℤ pos (v * c)) q ⌝ }
 {
     let modulus = q as u64;
-    let product = (v as u64) * (c as u64) % modulus;
-    ((z as u64 + modulus - product) % modulus) as u32
+    ((z as u64 + modulus * modulus - (v as u64) * (c as u64)) % modulus) as u32
 }
 
 // The differences at each place, in front.
@@ -61,20 +65,6 @@ fn differences_of(q: u32, z: &[u32], public: &[u32], challenge: &[u32]) -> [u32;
     let mut i = 0;
     while i < z.len() {
         out[i] = difference(z[i], public[i], challenge[i], q);
-        i += 1;
-    }
-    out
-}
-
-// The coefficients of a challenge as the evaluator takes them, in front.
-fn wide_challenge(c: &[i8]) -> [i16; MAX_N]
-    requires { ⌜ length (now c) ≤ maxN ⌝ }
-    ensures { λ r. ⌜ take (length (now (c .entry))) r ≡ now (c .entry) ⌝ }
-{
-    let mut out = [0i16; MAX_N];
-    let mut i = 0;
-    while i < c.len() {
-        out[i] = c[i] as i16;
         i += 1;
     }
     out
@@ -101,14 +91,38 @@ fn is_equal(c: &[i8], d: &[i8]) -> bool
 }
 
 // The evaluations of a polynomial at the points, in 0..q-1, in front.
-fn evaluations_at(p: Params, powers: &[u32; MAX_N], exponents: &[u16], f: &[i16]) -> [u32; MAX_T]
-    requires { ⌜ Usable p (now powers) ⌝ }
-    requires { ⌜ (length (now exponents) ≡ p .t) × T (areBelow (p .n) (now exponents)) × (length (now f) ≡ p .n) ⌝ }
+fn evaluations_at(
+    p: Params,
+    powers: &[u32; MAX_N],
+    split: &[u32],
+    exponents: &[u16],
+    f: &[i16],
+) -> [u32; MAX_T]
+    requires { ⌜ Usable p (now powers) × SplitTable p (now split) ⌝ }
+    requires { ⌜ (length (now exponents) ≡ p .t) × (areExponents p (now exponents) ≡ true) × (length (now f) ≡ p .n) ⌝ }
     ensures { λ r. ⌜ take (p .t) r ≡ evaluationResidues p (now (f .entry)) (now (exponents .entry)) ⌝ }
 {
     let t = p.t;
     let mut out = [0u32; MAX_T];
-    evaluate_residues(p, powers, f, exponents, &mut out[..t]);
+    evaluate_residues(p, powers, split, f, exponents, &mut out[..t]);
+    out
+}
+
+// The same for a challenge.
+fn challenge_evaluations_at(
+    p: Params,
+    powers: &[u32; MAX_N],
+    split: &[u32],
+    exponents: &[u16],
+    c: &[i8],
+) -> [u32; MAX_T]
+    requires { ⌜ Usable p (now powers) × SplitTable p (now split) × T (ternary (now c)) ⌝ }
+    requires { ⌜ (length (now exponents) ≡ p .t) × (areExponents p (now exponents) ≡ true) × (length (now c) ≡ p .n) ⌝ }
+    ensures { λ r. ⌜ take (p .t) r ≡ evaluationResidues p (now (c .entry)) (now (exponents .entry)) ⌝ }
+{
+    let t = p.t;
+    let mut out = [0u32; MAX_T];
+    evaluate_challenge(p, powers, split, c, exponents, &mut out[..t]);
     out
 }
 
@@ -116,19 +130,18 @@ fn evaluations_at(p: Params, powers: &[u32; MAX_N], exponents: &[u16], f: &[i16]
 fn recovered_commitment(
     p: Params,
     powers: &[u32; MAX_N],
+    split: &[u32],
     exponents: &[u16],
     evaluations: &[u32],
     c: &[i8],
     z: &[i16],
 ) -> [u32; MAX_T]
-    requires { ⌜ Checkable p (now powers) (now exponents) (now evaluations) (now c) (now z) ⌝ }
+    requires { ⌜ Checkable p (now powers) (now split) (now exponents) (now evaluations) (now c) (now z) ⌝ }
     ensures { λ r. ⌜ take (p .t) r ≡ recovered p (signatureWith (now (c .entry)) (now (z .entry))) (now (exponents .entry)) (now (evaluations .entry)) ⌝ }
 {
-    let n = p.n;
     let t = p.t;
-    let wide = wide_challenge(c);
-    let of_challenge = evaluations_at(p, powers, exponents, &wide[..n]);
-    let of_z = evaluations_at(p, powers, exponents, z);
+    let of_challenge = challenge_evaluations_at(p, powers, split, exponents, c);
+    let of_z = evaluations_at(p, powers, split, exponents, z);
     differences_of(p.q, &of_z[..t], evaluations, &of_challenge[..t])
 }
 
@@ -136,20 +149,21 @@ fn recovered_commitment(
 fn verdict_of(
     p: Params,
     powers: &[u32; MAX_N],
+    split: &[u32],
     exponents: &[u16],
     evaluations: &[u32],
     c: &[i8],
     z: &[i16],
     message: &[u8],
 ) -> bool
-    requires { ⌜ Checkable p (now powers) (now exponents) (now evaluations) (now c) (now z) ⌝ }
+    requires { ⌜ Checkable p (now powers) (now split) (now exponents) (now evaluations) (now c) (now z) ⌝ }
     ensures { λ r. ⌜ r ≡ ruleOf p (now (exponents .entry)) (now (message .entry)) (now (evaluations .entry)) (now (c .entry)) (now (z .entry)) ⌝ }
 {
     let n = p.n;
     let t = p.t;
     let b = p.b;
     if in_range16(z, p.k - b as u32) {
-        let commitment = recovered_commitment(p, powers, exponents, evaluations, c, z);
+        let commitment = recovered_commitment(p, powers, split, exponents, evaluations, c, z);
         let drawn = challenge_of(p, &commitment[..t], message);
         if drawn.complete {
             let challenge = drawn.challenge;
@@ -182,12 +196,13 @@ fn refusal_of(p: Params, exponents: &[u16], evaluations: &[u32], entries: &[u16]
 pub fn check_in(
     p: Params,
     powers: &[u32; MAX_N],
+    split: &[u32],
     exponents: &[u16],
     evaluations: &[u32],
     signature: &[u8],
     message: &[u8],
 ) -> Verdict
-    requires { ⌜ Usable p (now powers) ⌝ }
+    requires { ⌜ Usable p (now powers) × SplitTable p (now split) ⌝ }
     requires { ⌜ (length (now exponents) ≡ p .t) × (length (now evaluations) ≡ p .t) × (length (now signature) ≡ 2 * p .b + 2 * p .n) ⌝ }
     ensures { λ r. ⌜ r ≡ answerOn drawChallenge p (now (exponents .entry)) (now (evaluations .entry)) (now (message .entry)) (now (signature .entry)) ⌝ }
 {
@@ -201,7 +216,16 @@ pub fn check_in(
     }
     let c = challenge_with(&entries[..b], n);
     let z = decoded.z;
-    if verdict_of(p, powers, exponents, evaluations, &c[..n], &z[..n], message) {
+    if verdict_of(
+        p,
+        powers,
+        split,
+        exponents,
+        evaluations,
+        &c[..n],
+        &z[..n],
+        message,
+    ) {
         return Verdict::Yes;
     }
     Verdict::No
@@ -248,6 +272,8 @@ pub fn check(public_key: &[u8], message: &[u8], signature: &[u8]) -> Verdict
     let ring = ring_of(public_key[0]);
     let p = ring.params;
     let powers = ring.powers;
+    let table = split_table(public_key[0]);
+    let size = 3 * (p.n - 1);
     let t = p.t;
     let key = decode_public_key(p, &public_key[1..]);
     let exponents = key.exponents;
@@ -255,6 +281,7 @@ pub fn check(public_key: &[u8], message: &[u8], signature: &[u8]) -> Verdict
     check_in(
         p,
         &powers,
+        &table[..size],
         &exponents[..t],
         &evaluations[..t],
         &signature[1..],

@@ -16,6 +16,7 @@ use refusal::Verdict;
 use session_state::Added;
 use session_state::CommandResult;
 use session_state::Flags;
+use split_tables::split_table;
 
 // A verdict: 1 or 0.
 fn judged(flags: Flags, verdict: u8) -> CommandResult
@@ -46,9 +47,12 @@ pub fn check_held(
     let t = p.t;
     let ring = ring_of(flags.set);
     let powers = ring.powers;
+    let table = split_table(flags.set);
+    let size = 3 * (p.n - 1);
     let verdict = check_in(
         p,
         &powers,
+        &table[..size],
         &exponents[..t],
         &evaluations[..t],
         operand,

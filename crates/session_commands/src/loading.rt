@@ -37,6 +37,7 @@ use refusal::WRONG_SET;
 use session_state::Added;
 use session_state::CommandResult;
 use session_state::Flags;
+use split_tables::split_table;
 use values::keys::key_evaluations;
 
 // Stores zeros.
@@ -162,7 +163,16 @@ pub fn load_key(
     let q = p.q;
     let ring = ring_of(flags.set);
     let powers = ring.powers;
-    key_evaluations(p, &powers, operand, &exponents[..t], &mut evaluations[..t]);
+    let table = split_table(flags.set);
+    let size = 3 * (p.n - 1);
+    key_evaluations(
+        p,
+        &powers,
+        &table[..size],
+        operand,
+        &exponents[..t],
+        &mut evaluations[..t],
+    );
     copy_u8(operand, &mut key[..n]);
     let mut next = flags;
     next.key = true;

@@ -13,14 +13,13 @@ ghost use Rattle.session_commands.specs.ByRules.{SignedHeld, BySign};
 use crate::plain;
 use encoding::signature::signature_size;
 use parameters::Params;
-use parameters::ring_of;
 use refusal::NONE_PASSES;
 use refusal::Signing;
 use session_state::Added;
 use session_state::CommandResult;
 use session_state::Flags;
 use session_state::at_most_eight;
-use signing::sign_in;
+use signing::sign_in_set;
 
 // Moves so many numbers from a place on to the front.
 fn move_to_front(list: &mut [i16], start: usize, count: usize)
@@ -66,11 +65,7 @@ fn sign_with(
     let t = p.t;
     let size = signature_size(p);
     let offered = at_most_eight(flags.count) * n;
-    let ring = ring_of(flags.set);
-    let powers = ring.powers;
-    sign_in(
-        p,
-        &powers,
+    sign_in_set(
         flags.set,
         &key[..n],
         &exponents[..t],

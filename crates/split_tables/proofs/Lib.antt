@@ -1,3 +1,4 @@
 pub mod TestLaws
 pub mod Joining
 pub mod SetTables
+pub mod LentTable

@@ -14,7 +14,7 @@ use refusal::WRONG_EXPONENTS;
 use refusal::WRONG_LENGTH;
 use refusal::WRONG_SET;
 use refusal::unless;
-use transform::generator::generator_powers;
+use split_tables::split_table;
 
 // The refusal for lengths and exponents, or 0.
 fn evaluate_refusal(p: Params, size: usize, exponents: &[u16], room: usize) -> u32
@@ -42,7 +42,9 @@ pub fn evaluate(set: u8, coefficients: &[i16], exponents: &[u16], out: &mut [i32
         return Answer::Refused(refusal);
     }
     let powers = ring.powers;
-    polynomial::evaluation::evaluate(p, &powers, coefficients, exponents, out);
+    let table = split_table(set);
+    let size = 3 * (p.n - 1);
+    split::points::evaluate(p, &powers, &table[..size], coefficients, exponents, out);
     Answer::Done
 }
 
@@ -69,8 +71,8 @@ pub fn evaluate_all(set: u8, coefficients: &[i16], out: &mut [i32]) -> Answer
         return Answer::Refused(WRONG_LENGTH);
     }
     let powers = ring.powers;
-    let order = generator_powers(set);
-    let last = out.len();
-    transform::evaluation::evaluate_all(p, &powers, &order[..last], coefficients, out);
+    let table = split_table(set);
+    let size = 3 * (p.n - 1);
+    split::points::evaluate_all(p, &powers, &table[..size], coefficients, out);
     Answer::Done
 }

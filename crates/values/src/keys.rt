@@ -6,6 +6,7 @@ ghost use lib.ListN.{length};
 ghost use Rattle.parameters.specs.Ring.{Usable};
 ghost use Rattle.parameters.specs.Sound.{Fitting};
 ghost use Rattle.polynomial.specs.Evaluation.{evaluationResidues};
+ghost use Rattle.split_tables.specs.Split.{SplitTable};
 ghost use Rattle.encoding.specs.Encoding.{areExponents, keyIn};
 ghost use Rattle.refusal.specs.Answer.{answerOf, stated, answerStates};
 ghost use Rattle.values.specs.Keys.{publicKeyLengths, publicKeyRefusalIn, publicKeyWrittenIn, publicKeyRefusal, publicKeyWritten};
@@ -19,13 +20,14 @@ use parameters::MAX_N;
 use parameters::MAX_T;
 use parameters::Params;
 use parameters::ring_of;
-use polynomial::evaluation::evaluate_residues;
 use refusal::Answer;
 use refusal::WRONG_EXPONENTS;
 use refusal::WRONG_KEY;
 use refusal::WRONG_LENGTH;
 use refusal::set_refusal;
 use refusal::unless;
+use split::points::evaluate_residues;
+use split_tables::split_table;
 
 // Whether the lengths are those of the set.
 fn has_key_lengths(p: Params, key: usize, exponents: usize, room: usize) -> bool
@@ -51,29 +53,31 @@ fn key_refusal(p: Params, key: &[u8], exponents: &[u16], room: usize) -> u32
 pub fn key_evaluations(
     p: Params,
     powers: &[u32; MAX_N],
+    split: &[u32],
     key: &[u8],
     exponents: &[u16],
     out: &mut [u32],
 )
-    requires { ⌜ Usable p (now powers) ⌝ }
+    requires { ⌜ Usable p (now powers) × SplitTable p (now split) ⌝ }
     requires { ⌜ (length (now key) ≡ p .n) × (length (now exponents) ≡ p .t) × (length (now out) ≡ p .t) × (areExponents p (now exponents) ≡ true) ⌝ }
     ensures { λ _. ⌜ now (out .exit) ≡ evaluationResidues p (keyIn (now (key .entry))) (now (exponents .entry)) ⌝ }
 {
     let n = p.n;
     let f = decode_secret_key(p, key);
-    evaluate_residues(p, powers, &f[..n], exponents, out);
+    evaluate_residues(p, powers, split, &f[..n], exponents, out);
 }
 
 // Writes the public key in a set of a key without its set byte.
 fn public_key_in(
     p: Params,
     powers: &[u32; MAX_N],
+    split: &[u32],
     set: u8,
     key: &[u8],
     exponents: &[u16],
     out: &mut [u8],
 ) -> Answer
-    requires { ⌜ Usable p (now powers) ⌝ }
+    requires { ⌜ Usable p (now powers) × SplitTable p (now split) ⌝ }
     ensures answer { λ r. ⌜ r ≡ answerOf (publicKeyRefusalIn p (set ∷ now (key .entry)) (now (exponents .entry)) (length (now (out .entry)))) ⌝ }
     ensures written { λ _. ⌜ now (out .exit) ≡ publicKeyWrittenIn p (set ∷ now (key .entry)) (now (exponents .entry)) (now (out .entry)) ⌝ }
 {
@@ -83,7 +87,7 @@ fn public_key_in(
     }
     let t = p.t;
     let mut values = [0u32; MAX_T];
-    key_evaluations(p, powers, key, exponents, &mut values[..t]);
+    key_evaluations(p, powers, split, key, exponents, &mut values[..t]);
     put_public_key(set, exponents, &values[..t], out);
     Answer::Done
 }
@@ -102,5 +106,7 @@ pub fn public_key(secret_key: &[u8], exponents: &[u16], out: &mut [u8]) -> Answe
     let ring = ring_of(set);
     let p = ring.params;
     let powers = ring.powers;
-    public_key_in(p, &powers, set, &secret_key[1..], exponents, out)
+    let table = split_table(set);
+    let size = 3 * (p.n - 1);
+    public_key_in(p, &powers, &table[..size], set, &secret_key[1..], exponents, out)
 }

@@ -1,39 +1,41 @@
 -- `check_in` meets its contract: the signature is decoded once, and what was read is refused or meets what the rule asks.
 -- Assumes nothing.
-use mathlib.Core.Path.{_≡_, sym, ap, ap₂, _∙_}
+use mathlib.Core.Path.{_≡_, sym, subst, ap, ap₂, _∙_}
 use mathlib.Core.List.{List}
 use Prim.Native.Nat.{_≤_}
 use native.Mathlib.Omega.{arith}
+use lib.Dec.{T}
 use lib.IntN.{ℤ}
-use lib.ListN.{length}
+use lib.ListN.{length, take}
 use borrow.Author.Needs.{needs}
 use borrow.Author.Tests.{eq-eqb, ne-eqb}
 use Rattle.algebra.proofs.Front.{in-front}
 use Rattle.algebra.proofs.Test.{true-holds}
 use Rattle.encoding.specs.Challenge.{challengeOf}
 use Rattle.encoding.specs.Encoding.{entriesIn}
-use Rattle.encoding.proofs.Evaluating.{exponents-below}
 use Rattle.challenge.specs.Draw.{drawChallenge}
+use Rattle.polynomial.specs.Polynomial.{ternary}
 use Rattle.scheme.specs.Scheme.{verdict}
 use Rattle.checking.specs.Check.{bodyRead, checkRefusalOf, answerOn}
 use Rattle.checking.specs.Asks.{ruleOf}
 use Rattle.checking.proofs.Allowed.{ReadAllowed, read-allowed}
+use Rattle.checking.proofs.Ternary.{challenge-ternary}
 use Rattle.checking.proofs.check_in.Statement.{statement}
 use Rattle.checking.proofs.check_in.Tie as tie
 
 module _ (d : tie.After-decode-signature) where
   abbrev start : tie.Start
-  start = d .before .before .before .before .before
+  start = d .before .before .before .before .before .before
 
   room : start .args .p .b ≤ length (d .decode-signature .result .entries)
   room =
       let size : length (d .decode-signature .result .entries) ≡ 64 = search needs in
-      omega (arith, start .pre .0 .fitting .weight)
+      omega (arith, start .pre .0 .0 .fitting .weight)
 
   z-room : start .args .p .n ≤ length (d .decode-signature .result .z)
   z-room =
       let size : length (d .decode-signature .result .z) ≡ 1153 = search needs in
-      omega (arith, start .pre .0 .fitting .size)
+      omega (arith, start .pre .0 .0 .fitting .size)
 
 -- what refuses is worked out from the decoded entries
 refusal-is : (c : tie.After-refusal-of) →
@@ -54,22 +56,27 @@ c-count c =
     let w = c .before .before in
     let size : length (w .challenge-with .result) ≡ 1153 = search needs in
     let s = start (w .before .before .before .before .before .before) in
-    in-front (s .args .p .n) (w .challenge-with .result) (omega (arith, s .pre .0 .fitting .size)) .count
+    in-front (s .args .p .n) (w .challenge-with .result) (omega (arith, s .pre .0 .0 .fitting .size)) .count
 
 z-count : tie.Need-slice-aggregate-verdict-of-2
 z-count c = let d = c .before .before .before .before .before .before .before .before .before in in-front _ (d .decode-signature .result .z) (z-room d) .count
 
 verdict-of-requires : tie.Need-verdict-of-requires
 verdict-of-requires c κs =
-    let e = c .before .before .before .before .before in
-    let s = start (e .before .before .before .before) in
+    let w = c .before .before .before in
+    let e = w .before .before in
+    let d = e .before .before .before .before in
+    let s = start d in
+    let ternary-read = challenge-ternary (s .args .p .n) (take (s .args .p .b) (d .decode-signature .result .entries)) in
     record {
-      usable = s .pre .0;
+      usable = s .pre .0 .0;
+      split = s .pre .0 .1;
       exponents-size = s .pre .1 .0;
-      exponents-below = exponents-below (s .args .p) (s .args .exponents .now) (allowed e .exponents-rise);
+      exponents-rise = allowed e .exponents-rise;
       evaluations-size = s .pre .1 .1;
       evaluations-below = true-holds (allowed e .evaluations-below);
       challenge-size = sym (c-count (c .before));
+      challenge-ternary = subst (λ (a : List ℤ). T (ternary a)) (sym (w .challenge-with .ensures)) ternary-read;
       z-size = sym (z-count c);
     }
 
@@ -107,5 +114,5 @@ check-in-spec =
     tie.close
     (tie.spec (λ c κs. search needs) (λ c. room (c .before)) (λ c. in-front _ _ (room (c .before .before)) .count) (λ c κs. search needs) returns
     (λ c. room (c .before .before .before .before)) (λ c. in-front _ _ (room (c .before .before .before .before .before)) .count)
-    (λ c κs. start (c .before .before .before .before .before) .pre .0 .fitting .size) (λ c. search needs) c-count
+    (λ c κs. start (c .before .before .before .before .before) .pre .0 .0 .fitting .size) (λ c. search needs) c-count
     (λ c. z-room (c .before .before .before .before .before .before .before .before)) z-count verdict-of-requires returns-2 returns-3)

@@ -10,16 +10,16 @@ use Rattle.checking.proofs.evaluations_at.Statement.{statement}
 use Rattle.checking.proofs.evaluations_at.Tie as tie
 
 count : tie.Need-slice-aggregate-evaluate-residues
-count c = in-front (c .before .before .args .p .t) (replicate {A = ℕ} 1152 0) (search needs) .count
+count c = in-front (c .before .before .before .args .p .t) (replicate {A = ℕ} 1152 0) (search needs) .count
 
 evaluate-residues-requires : tie.Need-evaluate-residues-requires
 evaluate-residues-requires c κs =
-    let s = c .before .before in
-    (s .pre .0, (s .pre .1 .2, (s .pre .1 .1, sym (count c) ∙ sym (s .pre .1 .0))))
+    let s = c .before .before .before in
+    (s .pre .0, (s .pre .1 .2, s .pre .1 .1, sym (count c) ∙ sym (s .pre .1 .0)))
 
 returns : tie.Need-returns
 returns c =
-    let s = c .before .before .before .before in
+    let s = c .before .before .before .before .before in
     let size = length-evaluation-residues (s .args .p) (s .args .f .now) (s .args .exponents .now) ∙ s .pre .1 .0 in
     stored (s .args .p .t) _ size (c .before .evaluate-residues .ensures) .front
 

@@ -7,14 +7,14 @@ use mathlib.Core.Logic.{Iff·rfl}
 use Prim.Native.Nat.{ℕ}
 use lib.ListN.{length}
 use borrow.Author.Needs.{needs}
-use borrow.Author.Tests.{not-true, not-false}
+use borrow.Author.Tests.{not-true, not-false, ltb-true}
 use Rattle.parameters.specs.declared.Params.{Params}
 use Rattle.parameters.specs.Sets.{isSet}
 use Rattle.encoding.specs.Encoding.{areExponents}
-use Rattle.encoding.proofs.Evaluating.{exponents-below}
 use Rattle.refusal.proofs.Refusal.{step}
 use Rattle.refusal.proofs.Answering.{stating, refused, kept, three-equal}
 use Rattle.values.specs.Evaluate.{evaluateLengths, evaluateRefusalIn, evaluateRefusal, evaluateWritten}
+use Rattle.split_tables.proofs.LentTable.{Lent, lent}
 use Rattle.values.proofs.evaluation.evaluate.Statement.{statement}
 use Rattle.values.proofs.evaluation.evaluate.Tie as tie
 
@@ -56,16 +56,25 @@ module _ (c : tie.After-evaluate-refusal) where
       let s = start .args in
       allowed p (length (s .coefficients .now)) (s .exponents .now) (length (s .out .now)) (sym (c .evaluate-refusal .ensures) ∙ e)
 
+-- the table of the set's split
+module _ (c : tie.After-split-table) where
+  abbrev tests : tie.After-evaluate-refusal
+  tests = c .before .before .before
+
+  table : Lent (p tests) (c .split-table .result)
+  table = lent (tests .before .before .ring-of .ensures) (c .split-table .result) (c .split-table .ensures)
+
 evaluate-requires : tie.Need-evaluate-requires
 evaluate-requires c κs =
-    let r = c .before .before .before .before in
-    let a = lengths r (c .before .before .before .if2 .left) in
-    (r .before .before .ring-of .ensures .usable, (a .0 .0, (exponents-below (p r) (start r .args .exponents .now) (a .1), a .0 .2 ∙ sym (a .0 .1))))
+    let g = c .before .before .before .before in
+    let r = tests g in
+    let a = lengths r (g .before .before .if2 .left) in
+    ((r .before .before .ring-of .ensures .usable, table g .split), (a .0 .0, a .1, a .0 .2 ∙ sym (a .0 .1)))
 
 returns-3 : tie.Need-returns-3
 unfolding evaluateRefusal evaluateWritten
 returns-3 c =
-    let t = c .before .before .before .before .before in
+    let t = c .before .before .before .before .before .before .before .before in
     let g = t .before .before .before in
     rw (known (g .before), ← g .ring-of .ensures .params, ← t .before .evaluate-refusal .ensures, t .if2 .left)
     (stating (refl, c .before .evaluate .ensures))
@@ -73,4 +82,6 @@ returns-3 c =
 pub evaluate-spec : {M : Type 1} → statement M
 evaluate-spec =
     tie.close
-    (tie.spec (λ c κs. search needs) returns (λ c κs. known c) (λ c κs. search needs) returns-2 evaluate-requires (λ c. search needs) returns-3)
+    (tie.spec (λ c κs. search needs) returns (λ c κs. known c) (λ c κs. search needs) returns-2
+    (λ c κs. ltb-true _ 5 (known (c .before .before .before .before .before))) (λ c. search needs) (λ c. search needs) (λ c. table (c .before .before) .room)
+    (λ c. sym (table (c .before .before .before) .split .size)) evaluate-requires (λ c. search needs) returns-3)

@@ -6,22 +6,21 @@ use lib.IntN.{ℤ}
 use borrow.Author.Needs.{needs}
 use Rattle.algebra.proofs.Front.{in-front}
 use Rattle.polynomial.specs.Evaluation.{evaluationResidues}
-use Rattle.encoding.proofs.Evaluating.{exponents-below}
 use Rattle.values.proofs.keys.key_evaluations.Statement.{statement}
 use Rattle.values.proofs.keys.key_evaluations.Tie as tie
 
 count : tie.Need-slice-aggregate-evaluate-residues
-count c = let d = c .before in in-front (d .before .before .before .before .args .p .n) (d .decode-secret-key .result) (search needs) .count
+count c = let d = c .before in in-front (d .before .before .before .before .before .args .p .n) (d .decode-secret-key .result) (search needs) .count
 
 evaluate-residues-requires : tie.Need-evaluate-residues-requires
 evaluate-residues-requires c κs =
-    let s = c .before .before .before .before .before .before in
-    (s .pre .0, (sym (count (c .before)), (exponents-below (s .args .p) (s .args .exponents .now) (s .pre .1 .3), s .pre .1 .2 ∙ sym (s .pre .1 .1))))
+    let s = c .before .before .before .before .before .before .before in
+    (s .pre .0, (sym (count (c .before)), s .pre .1 .3, s .pre .1 .2 ∙ sym (s .pre .1 .1)))
 
 returns : tie.Need-returns
 returns c =
     let d = c .before .before .before .before .before in
-    let a = d .before .before .before .before .args in
+    let a = d .before .before .before .before .before .args in
     c .before .before .evaluate-residues .ensures ∙ ap (λ (f : List ℤ). evaluationResidues (a .p) f (a .exponents .now)) (d .decode-secret-key .ensures)
 
 pub key-evaluations-spec : {M : Type 1} → statement M

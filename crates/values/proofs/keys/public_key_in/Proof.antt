@@ -29,7 +29,7 @@ allowed p key exponents room e =
 
 module _ (c : tie.Else1) where
   abbrev start : tie.Start
-  start = c .before .before .before .before .before
+  start = c .before .before .before .before .before .before
 
   -- the set byte decides nothing
   not-refused : let s = start .args in publicKeyRefusalIn (s .p) (s .set ∷ s .key .now) (s .exponents .now) (length (s .out .now)) ≡ 0
@@ -61,7 +61,7 @@ module _ (c : tie.After-key-evaluations) where
   abbrev values : List ℕ
   values = evaluationResidues (s .args .p) (keyIn (s .args .key .now)) (s .args .exponents .now)
 
-  filled : InFront (s .args .p .t) values (c .key-evaluations .last .1 .1 .1 .1 .0 ++ drop (s .args .p .t) (replicate 1152 0))
+  filled : InFront (s .args .p .t) values (c .key-evaluations .last .1 .1 .1 .1 .1 .0 ++ drop (s .args .p .t) (replicate 1152 0))
   filled =
       let size = length-evaluation-residues (s .args .p) (keyIn (s .args .key .now)) (s .args .exponents .now) ∙ lengths (c .before .before) .0 .1 in
       stored (s .args .p .t) (drop (s .args .p .t) (replicate 1152 0)) size (c .key-evaluations .ensures)
