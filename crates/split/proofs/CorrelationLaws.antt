@@ -77,10 +77,10 @@ module _ {p : Params} {order twists rows : List ℕ} (sound : Sound p) (several 
   rule-again : (e x : ℕ) → e < k → x < width l → Cong (p .q) (combined (k + e) x) (w ((k + e) * l + x))
   rule-again e x he hx =
       let one : (s : ℕ) → s < k → Cong (p .q) (pos (root s ^ (k + e))) (pos (root s ^ e)) =
-          λ s hs. cong-trans (cong-eq (ap pos (pow-add (root s) k e)))
-          (cong-trans
-          (cong-mul (cong-trans (cong-residue positive (pos (root s ^ k))) (cong-eq (ap pos (twisted .unity s hs)))) (cong-refl (pos (root s ^ e))))
-          (cong-eq (*ℤ-idl (pos (root s ^ e))))) in
+      λ s hs. cong-trans (cong-eq (ap pos (pow-add (root s) k e)))
+      (cong-trans
+      (cong-mul (cong-trans (cong-residue positive (pos (root s ^ k))) (cong-eq (ap pos (twisted .unity s hs)))) (cong-refl (pos (root s ^ e))))
+      (cong-eq (*ℤ-idl (pos (root s ^ e))))) in
       let far : (k + e) * l + x ≡ p .n - 1 + (e * l + x) = omega (arith, add-mul k e l, whole) in
       cong-trans
       (sum-cong (λ (s : ℕ). pos (root s ^ (k + e)) *ℤ pos (rowAt l rows s x)) (λ (s : ℕ). pos (root s ^ e) *ℤ pos (rowAt l rows s x)) k

@@ -71,15 +71,25 @@ module _ {q : ℕ} {twists : List ℕ} (tree : Tree q 3 twists) (l : ℕ) {old :
           (λ (b : k < h + h).
           let i = k - h in
           let at : h + i ≡ k = omega arith in
-          omega (arith, ap (λ (j : ℕ). getD new j 0) at, thirds .second i (omega arith), least,
-          third-high-below (tree .modulus) (getD twists 1 0) (getD twists 2 0) (getD old i 0) (getD old (h + i) 0) (getD old (h + h + i) 0) first-twist second-twist
-          (old-under i (omega arith)) (old-under (h + i) (omega arith)) (old-under (h + h + i) (omega arith))))
+          omega (
+            arith,
+            ap (λ (j : ℕ). getD new j 0) at,
+            thirds .second i (omega arith),
+            least,
+            third-high-below (tree .modulus) (getD twists 1 0) (getD twists 2 0) (getD old i 0) (getD old (h + i) 0) (getD old (h + h + i) 0) first-twist second-twist
+                (old-under i (omega arith)) (old-under (h + i) (omega arith)) (old-under (h + h + i) (omega arith)),
+          ))
           (λ (b : h + h ≤ k).
           let i = k - (h + h) in
           let at : h + h + i ≡ k = omega arith in
-          omega (arith, ap (λ (j : ℕ). getD new j 0) at, thirds .third i (omega arith), least,
-          third-high-below (tree .modulus) (getD twists 2 0) (getD twists 1 0) (getD old i 0) (getD old (h + i) 0) (getD old (h + h + i) 0) second-twist first-twist
-          (old-under i (omega arith)) (old-under (h + i) (omega arith)) (old-under (h + h + i) (omega arith))))
+          omega (
+            arith,
+            ap (λ (j : ℕ). getD new j 0) at,
+            thirds .third i (omega arith),
+            least,
+            third-high-below (tree .modulus) (getD twists 2 0) (getD twists 1 0) (getD old i 0) (getD old (h + i) 0) (getD old (h + h + i) 0) second-twist first-twist
+                (old-under i (omega arith)) (old-under (h + i) (omega arith)) (old-under (h + h + i) (omega arith)),
+          ))
           (lt-or-le k (h + h)))
           (lt-or-le k h)
 
@@ -135,7 +145,7 @@ module _ (q k l : ℕ) (root : ℕ → ℕ) (x : List ℕ) where
         each = λ b e v hb he hv.
             let none : e ≡ 0 = omega arith in
             let place : b * (1 * l) + (0 * l + v) ≡ (b * 1 + 0) * l + v =
-                omega (arith, ap (λ (n : ℕ). b * n) (one-mul l), zero-mul l, ap (λ (n : ℕ). n * l) (add-zero (b * 1) ∙ mul-one b)) in
+            omega (arith, ap (λ (n : ℕ). b * n) (one-mul l), zero-mul l, ap (λ (n : ℕ). n * l) (add-zero (b * 1) ∙ mul-one b)) in
             ap (λ (z : ℤ). residue z q)
             (ap (λ (n : ℕ). entry x (b * (1 * l) + (n * l + v))) none
             ∙ ap (entry x) place

@@ -54,8 +54,18 @@ module _ {q : ℕ} (modulus : Modulus q) (s : ℕ) (small : s < 2 ^ 51) where
       let over : 2 ^ 51 ≤ inverse q * q + q = omega (arith, inverse-high) in
       let whole = mul-le-mul-left a over in
       let few : a ≤ 2 ^ 32 - 1 = omega (arith, a-low) in
-      omega (arith, up, whole, mul-assoc a (inverse q) q, scaled, a-high, add-mul (guess * 2 ^ 32) (2 ^ 32 - 1) q, mul-add a (inverse q * q) q,
-      mul-le-mul-right q few, modulus .from)
+      omega (
+        arith,
+        up,
+        whole,
+        mul-assoc a (inverse q) q,
+        scaled,
+        a-high,
+        add-mul (guess * 2 ^ 32) (2 ^ 32 - 1) q,
+        mul-add a (inverse q * q) q,
+        mul-le-mul-right q few,
+        modulus .from,
+      )
 
   pub folded-below : folded q s < 3 * q
   folded-below = left-below

@@ -150,13 +150,13 @@ module _ {low high : ℕ → ℕ → ℕ → ℕ} {c : ℕ → ℕ} {h n old-bou
       ⊎-elim
       (λ (first : r < h).
       let pair = grows b (getD old (b * (2 * h) + r) 0) (getD old (b * (2 * h) + h + r) 0) node (old-at (b * (2 * h) + r) (omega (arith, room)))
-          (old-at (b * (2 * h) + h + r) (omega (arith, room))) in
+      (old-at (b * (2 * h) + h + r) (omega (arith, room))) in
       omega (arith, pair .0, level .first b r node first, ap (λ (i : ℕ). getD new i 0) whole))
       (λ (second : h ≤ r).
       let i = r - h in
       let here : b * (2 * h) + h + i ≡ k = omega (arith, whole) in
       let pair = grows b (getD old (b * (2 * h) + i) 0) (getD old (b * (2 * h) + h + i) 0) node (old-at (b * (2 * h) + i) (omega (arith, room)))
-          (old-at (b * (2 * h) + h + i) (omega (arith, room))) in
+      (old-at (b * (2 * h) + h + i) (omega (arith, room))) in
       omega (arith, pair .1, level .second b i node (omega (arith, inside)), ap (λ (i : ℕ). getD new i 0) here))
       (lt-or-le r h)
 

@@ -103,8 +103,13 @@ module _ {q start : ℕ} {twists : List ℕ} (tree : Tree q start twists) (l : �
                 let same : e / half * half + e % half ≡ e = omega (arith, whole, mul-comm half (e / half)) in
                 let part : e / half < 2 = div-below e 2 half (half-some two) he in
                 let place : b * (2 * half * l) + (e * l + v) ≡ b * (2 * h) + (e / half * h + (e % half * l + v)) =
-                    omega (arith, ap (λ (x : ℕ). b * x) (mul-assoc 2 half l), ap (λ (x : ℕ). x * l) (sym same), add-mul (e / half * half) (e % half) l,
-                    mul-assoc (e / half) half l) in
+                omega (
+                  arith,
+                  ap (λ (x : ℕ). b * x) (mul-assoc 2 half l),
+                  ap (λ (x : ℕ). x * l) (sym same),
+                  add-mul (e / half * half) (e % half) l,
+                  mul-assoc (e / half) half l,
+                ) in
                 residue-eq (positive tree)
                 (cong-trans (cong-eq (ap (entry new) place))
                 (cong-trans (half-joined b hb joined (e / half) (e % half) v part inside hv)

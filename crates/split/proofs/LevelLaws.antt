@@ -117,8 +117,12 @@ node-under {h = h} {n = n} {nodes = nodes} {old = old} s l under =
       each = λ k m.
           let below = mul-le-mul-right {m = n + 1} {n = nodes} (2 * h) (omega arith) in
           let at : 0 + (n * (2 * h) + k) ≡ n * (2 * h) + k = omega arith in
-          omega (arith, s .behind (n * (2 * h) + k) (omega arith), ap (λ (i : ℕ). getD old i 0) at,
-          under .each (n * (2 * h) + k) (omega (arith, below, add-mul n 1 (2 * h))));
+          omega (
+            arith,
+            s .behind (n * (2 * h) + k) (omega arith),
+            ap (λ (i : ℕ). getD old i 0) at,
+            under .each (n * (2 * h) + k) (omega (arith, below, add-mul n 1 (2 * h))),
+          );
     }
 
 -- ---- thirds: one triple more

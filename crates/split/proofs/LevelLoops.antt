@@ -68,13 +68,13 @@ module _ {q start : ℕ} {twists : List ℕ} (tree : Tree q start twists) (l : �
     cut-next {next} level =
         let two = power-of (height-down (s .at) more) in
         let all61 : UnderIn (61 * q) new 0 (length twists * l) =
-            record { each = λ k h. cut-under .each k (omega (arith, nodes-size nodes half l (length twists) halves)) } in
+        record { each = λ k h. cut-under .each k (omega (arith, nodes-size nodes half l (length twists) halves)) } in
         let grown : (3 + 3 * s .at .up) * q + 3 * q ≡ (3 + 3 * height-down (s .at) more .up) * q =
-            sym (add-mul (3 + 3 * s .at .up) 3 q) ∙ ap (λ (x : ℕ). x * q) (omega (arith, down-up (s .at) more)) in
+        sym (add-mul (3 + 3 * s .at .up) 3 q) ∙ ap (λ (x : ℕ). x * q) (omega (arith, down-up (s .at) more)) in
         let larger = level-under {old-bound = (3 + 3 * s .at .up) * q} {new-bound = (3 + 3 * s .at .up) * q + 3 * q} level
-            (record { each = λ k h. s .under .each k (omega (arith, cut-size)) })
-            (λ b x y hb hx hy.
-            cut-grows (tree .modulus) (getD twists (nodes + b) 0) x y (twist-below tree nodes half halves two b hb) (omega (arith, bound)) (omega (arith, bound)) hx) in
+        (record { each = λ k h. s .under .each k (omega (arith, cut-size)) })
+        (λ b x y hb hx hy.
+        cut-grows (tree .modulus) (getD twists (nodes + b) 0) x y (twist-below tree nodes half halves two b hb) (omega (arith, bound)) (omega (arith, bound)) hx) in
         record {
           at = height-down (s .at) more;
           size = level .size ∙ s .size;
@@ -131,16 +131,21 @@ module _ {q start : ℕ} {twists : List ℕ} (tree : Tree q start twists) (l : �
     join-next {next} level =
         let two = power-of (s .at) in
         let all61 : UnderIn (61 * q) new 0 (length twists * l) =
-            record { each = λ k h. join-under .each k (omega (arith, nodes-size pairs leaves l (length twists) doubles)) } in
+        record { each = λ k h. join-under .each k (omega (arith, nodes-size pairs leaves l (length twists) doubles)) } in
         let some : 1 ≤ leaves = half-some two in
         let least : 3 * q ≤ 3 * leaves * q = mul-le-mul-right q (omega (arith, some)) in
         let twice : 3 * leaves * q + 3 * leaves * q ≡ 3 * (leaves + leaves) * q = sym (add-mul (3 * leaves) (3 * leaves) q) ∙ ap (λ (x : ℕ). x * q) (omega arith) in
         let larger = level-under {old-bound = 3 * leaves * q} {new-bound = 3 * leaves * q + 3 * leaves * q} level
-            (record { each = λ k h. s .under .each k (omega (arith, join-size)) })
-            (λ b x y hb hx hy.
-            (omega arith,
-            omega (arith, least, join-high-below (tree .modulus) (getD twists (pairs + b) 0) x y (twist-below tree pairs leaves doubles two b hb)
-            (omega (arith, join-bound)) (omega (arith, join-bound))))) in
+        (record { each = λ k h. s .under .each k (omega (arith, join-size)) })
+        (λ b x y hb hx hy. (
+          omega arith,
+          omega (
+            arith,
+            least,
+            join-high-below (tree .modulus) (getD twists (pairs + b) 0) x y (twist-below tree pairs leaves doubles two b hb)
+                (omega (arith, join-bound)) (omega (arith, join-bound)),
+          ),
+        )) in
         record {
           at = height-up (s .at) more;
           size = level .size ∙ s .size;
@@ -168,7 +173,7 @@ pub join-done : {q start l : ℕ} {twists old new : List ℕ} {nodes leaves : �
 join-done {q} {start} {l} {twists} {old} {new} {nodes} {leaves} tree s last =
     let same : nodes ≡ start = omega (arith, last, nodes-least (s .at)) in
     let all : leaves ≡ length twists / start =
-        sym (mul-div-cancel leaves (start-some tree)) ∙ ap (λ (x : ℕ). x / start) (mul-comm leaves start ∙ ap (λ (x : ℕ). x * leaves) (sym same) ∙ s .at .all) in
+    sym (mul-div-cancel leaves (start-some tree)) ∙ ap (λ (x : ℕ). x / start) (mul-comm leaves start ∙ ap (λ (x : ℕ). x * leaves) (sym same) ∙ s .at .all) in
     let bound : 3 * leaves * q ≤ 48 * q = mul-le-mul-right q (omega (arith, leaves-few (s .at))) in
     let first = JoinedFurther q l (rootOf q twists) (length twists) 1 old in
     (under-weaker bound (s .under), subst (λ (n : ℕ). first n (length twists / start) new) same (subst (λ (m : ℕ). first nodes m new) all (s .joined)))

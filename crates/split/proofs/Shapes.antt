@@ -24,16 +24,40 @@ unfolding shapeOf
 usual n =
     by-test (eqb n 433)
     (λ a. rw a (record {
-      starts = inl refl; depth = record { exponent = 4; is = refl }; shallow = omega arith; parts = refl; few = omega arith; short = omega arith; some = omega arith;
+      starts = inl refl;
+      depth = record { exponent = 4; is = refl };
+      shallow = omega arith;
+      parts = refl;
+      few = omega arith;
+      short = omega arith;
+      some = omega arith;
     }))
     (λ a. by-test (eqb n 577)
     (λ b. rw (a, b) (record {
-      starts = inl refl; depth = record { exponent = 3; is = refl }; shallow = omega arith; parts = refl; few = omega arith; short = omega arith; some = omega arith;
+      starts = inl refl;
+      depth = record { exponent = 3; is = refl };
+      shallow = omega arith;
+      parts = refl;
+      few = omega arith;
+      short = omega arith;
+      some = omega arith;
     }))
     (λ b. by-test (eqb n 769)
     (λ c. rw (a, b, c) (record {
-      starts = inr refl; depth = record { exponent = 1; is = refl }; shallow = omega arith; parts = refl; few = omega arith; short = omega arith; some = omega arith;
+      starts = inr refl;
+      depth = record { exponent = 1; is = refl };
+      shallow = omega arith;
+      parts = refl;
+      few = omega arith;
+      short = omega arith;
+      some = omega arith;
     }))
     (λ c. rw (a, b, c) (record {
-      starts = inr refl; depth = record { exponent = 3; is = refl }; shallow = omega arith; parts = refl; few = omega arith; short = omega arith; some = omega arith;
+      starts = inr refl;
+      depth = record { exponent = 3; is = refl };
+      shallow = omega arith;
+      parts = refl;
+      few = omega arith;
+      short = omega arith;
+      some = omega arith;
     }))))

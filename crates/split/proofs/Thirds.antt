@@ -148,7 +148,7 @@ module _ {q : ℕ} {twists : List ℕ} (tree : Tree q 3 twists) (third l : ℕ) 
     above a ha =
         let below : leaf < length twists = omega (arith, mul-le-mul-right {m = 0 * 3 + j + 1} {n = 3} third (omega arith), add-mul (0 * 3 + j) 1 third, all) in
         let here : a * h + i < length twists * l =
-            omega (arith, mul-le-mul-right {m = a + 1} {n = 3} h (omega arith), add-mul a 1 h, mul-assoc 3 third l, ap (λ (x : ℕ). x * l) all) in
+        omega (arith, mul-le-mul-right {m = a + 1} {n = 3} h (omega arith), add-mul a 1 h, mul-assoc 3 third l, ap (λ (x : ℕ). x * l) all) in
         let none : 0 * length twists + leaf ≡ leaf = omega (arith, zero-mul (length twists)) in
         let same : 0 * (length twists * l) + (a * h + i) ≡ 0 * (3 * third * l) + (a * h + i) = omega (arith, zero-mul (length twists * l), zero-mul (3 * third * l)) in
         cong-trans (cong-eq (ap (entry old) (sym same)))
@@ -211,8 +211,14 @@ module _ {q : ℕ} {twists : List ℕ} (tree : Tree q 3 twists) (third l : ℕ) 
               let part : e / third < 3 = div-below e 3 third some (omega (arith, all)) in
               let none : b ≡ 0 = omega arith in
               let place : b * (length twists * l) + (e * l + v) ≡ e / third * h + (e % third * l + v) =
-                  omega (arith, ap (λ (x : ℕ). x * (length twists * l)) none, zero-mul (length twists * l), ap (λ (x : ℕ). x * l) (sym same),
-                  add-mul (e / third * third) (e % third) l, mul-assoc (e / third) third l) in
+              omega (
+                arith,
+                ap (λ (x : ℕ). x * (length twists * l)) none,
+                zero-mul (length twists * l),
+                ap (λ (x : ℕ). x * l) (sym same),
+                add-mul (e / third * third) (e % third) l,
+                mul-assoc (e / third) third l,
+              ) in
               residue-eq (positive tree)
               (cong-trans (cong-eq (ap (entry new) place))
               (cong-trans (third-joined joined (e / third) (e % third) v part inside hv)

@@ -41,10 +41,10 @@ module _ {q k start : ℕ} {twists : List ℕ} (twisted : Twists q k start twist
         let place : leaf ≡ b * (2 * half) + (j * half + s) = omega (arith, add-mul (b * 2) j half, mul-assoc b 2 half) in
         let less : j * half + s < 2 * half = omega (arith, mul-le-mul-right {m = j + 1} {n = 2} half (omega arith), add-mul j 1 half) in
         let side : leaf / half % 2 ≡ j =
-            ap (λ (x : ℕ). x % 2) (leaf-over b 2 j half s inside) ∙ mul-add-mod-self-right b 2 j ∙ mod-eq-of-lt part in
+        ap (λ (x : ℕ). x % 2) (leaf-over b 2 j half s inside) ∙ mul-add-mod-self-right b 2 j ∙ mod-eq-of-lt part in
         let over : leaf / (2 * half) ≡ b =
-            ap (λ (x : ℕ). x / (2 * half)) place
-            ∙ mul-add-div-right {m = 2 * half} (omega arith) b (j * half + s) ∙ ap (λ (x : ℕ). b + x) (div-eq-of-lt less) ∙ omega arith in
+        ap (λ (x : ℕ). x / (2 * half)) place
+        ∙ mul-add-div-right {m = 2 * half} (omega arith) b (j * half + s) ∙ ap (λ (x : ℕ). b + x) (div-eq-of-lt less) ∙ omega arith in
         ap₂ (λ (x y : ℕ). cond (eqb x 0) (getD twists (nodes + y) 0) (q - getD twists (nodes + y) 0)) side over
 
     pub half-twisted : Cong q (pos (halfTwist nodes b j)) (pos (rootAt q twists k leaf ^ half))

@@ -43,8 +43,12 @@ residues-under {q} modulus f order =
           let at : 0 + k ≡ k = omega arith in
           let list = map (λ (e : ℕ). residue (coefficient f e) q) order in
           let inside : k < length order = omega (arith, length-map order (λ (e : ℕ). residue (coefficient f e) q)) in
-          omega (arith, ap (λ (i : ℕ). getD list i 0) at, map-at (λ (e : ℕ). residue (coefficient f e) q) order k 0 0 inside,
-          residue-below some (coefficient f (getD order k 0)));
+          omega (
+            arith,
+            ap (λ (i : ℕ). getD list i 0) at,
+            map-at (λ (e : ℕ). residue (coefficient f e) q) order k 0 0 inside,
+            residue-below some (coefficient f (getD order k 0)),
+          );
     }
 
 module _ {p : Params} {base : ℕ} {powers order : List ℕ} (usable : Usable p powers) (several : 1 < p .n) (table : GeneratorTable base (p .n) order)
@@ -69,7 +73,7 @@ module _ {p : Params} {base : ℕ} {powers order : List ℕ} (usable : Usable p 
             let m = from .place in
             let inside : m < p .n - 1 = omega (arith, from .below, table .size) in
             let at : e % p .n ≡ base ^ m % p .n =
-                ap (λ (x : ℕ). x % p .n) (sym (from .is) ∙ order-at m inside) ∙ mod-mod (base ^ m) (p .n) in
+            ap (λ (x : ℕ). x % p .n) (sym (from .is) ∙ order-at m inside) ∙ mod-mod (base ^ m) (p .n) in
             ap (λ (x : ℕ). getD values (x - 1) 0) (sym (from .is))
             ∙ placed .each m 0 (from .below)
             ∙ found m inside
@@ -95,7 +99,7 @@ module _ {p : Params} {base : ℕ} {powers order : List ℕ} (usable : Usable p 
         let gen = table-generator several table in
         let e = base ^ i % p .n in
         let place : getD order (i % length order) 0 ≡ e =
-            ap (λ (n : ℕ). getD order (i % n) 0) (table .size) ∙ order-at (i % (p .n - 1)) inside ∙ r-round several gen i in
+        ap (λ (n : ℕ). getD order (i % n) 0) (table .size) ∙ order-at (i % (p .n - 1)) inside ∙ r-round several gen i in
         let below : e < p .n = mod-lt (base ^ i) (omega arith) in
         cong-trans
         (cong-eq (ap pos (twice .each i (omega (arith, table .size)) ∙ ap (λ (x : ℕ). getD powers x 0) place ∙ usable .table e below)))

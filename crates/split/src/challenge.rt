@@ -57,6 +57,13 @@ pub fn challenge_values(p: Params, powers: &[u32; MAX_N], split: &[u32], c: &[i8
     let mut sums = [0i32; MAX_N];
     sparse_sums(c, &split[..last], &twice[..both], &mut sums[..last]);
     let mut values = [0u32; MAX_N];
-    place_sums(c[0], &sums[..last], &split[..last], q, m, &mut values[..last]);
+    place_sums(
+        c[0],
+        &sums[..last],
+        &split[..last],
+        q,
+        m,
+        &mut values[..last],
+    );
     values
 }

@@ -115,6 +115,13 @@ pub fn values_of(p: Params, powers: &[u32; MAX_N], split: &[u32], f: &[i16]) -> 
     let mut sums = [0u32; MAX_N];
     split_sums(p, powers, split, f, m, &mut sums[..last]);
     let mut values = [0u32; MAX_N];
-    place(lift(f[0], q), &sums[..last], &split[..last], q, m, &mut values[..last]);
+    place(
+        lift(f[0], q),
+        &sums[..last],
+        &split[..last],
+        q,
+        m,
+        &mut values[..last],
+    );
     values
 }

@@ -66,13 +66,7 @@ pub fn evaluate_residues(
 }
 
 // The evaluations at the exponents 1 .. N - 1, in this order.
-pub fn evaluate_all(
-    p: Params,
-    powers: &[u32; MAX_N],
-    split: &[u32],
-    f: &[i16],
-    out: &mut [i32],
-)
+pub fn evaluate_all(p: Params, powers: &[u32; MAX_N], split: &[u32], f: &[i16], out: &mut [i32])
     requires { ⌜ Usable p (now powers) × SplitTable p (now split) × Prime (p .n) ⌝ }
     requires { ⌜ (length (now f) ≡ p .n) × (length (now out) ≡ p .n - 1) ⌝ }
     ensures { λ _. ⌜ now (out .exit) ≡ evaluations p (now (f .entry)) (allExponents p) ⌝ }

@@ -108,5 +108,13 @@ pub fn public_key(secret_key: &[u8], exponents: &[u16], out: &mut [u8]) -> Answe
     let powers = ring.powers;
     let table = split_table(set);
     let size = 3 * (p.n - 1);
-    public_key_in(p, &powers, &table[..size], set, &secret_key[1..], exponents, out)
+    public_key_in(
+        p,
+        &powers,
+        &table[..size],
+        set,
+        &secret_key[1..],
+        exponents,
+        out,
+    )
 }

@@ -18,7 +18,7 @@ use Rattle.session_rules.specs.Held.{Held}
 use Rattle.session_rules.specs.Commands.{values, accepted, keyResidues, loadKey}
 use Rattle.session_state.specs.State.{heldIn}
 use Rattle.session_commands.proofs.Lent.{tested}
-use Rattle.session_commands.proofs.LookedUp.{sound, fitting, points-room, usable}
+use Rattle.session_commands.proofs.LookedUp.{below, sound, fitting, points-room, usable, table-lent, table-room}
 use Rattle.session_commands.proofs.loading.load_key.Statement.{statement}
 use Rattle.session_commands.proofs.loading.load_key.Tie as tie
 
@@ -39,22 +39,26 @@ module _ (s : tie.Start) where
   key-room : s .args .p .n ≤ length (s .args .key .now)
   key-room = omega (arith, fitting (s .pre .0 .0) .size, s .pre .1 .0 .1)
 
+table-size : (c : tie.After-split-table) → length (c .split-table .result) ≡ 3456
+table-size c = search needs
+
 key-evaluations-requires : tie.Need-key-evaluations-requires
 key-evaluations-requires c κs =
-    let s = c .before .before .before .before .before .before .before .before .before .before .before in
-    let ring = usable (s .pre .0 .0) (c .before .before .before .before .ring-of .ensures) in
-    (ring, (s .pre .0 .1, exponents-size s, length-take-le _ _ (evaluations-room s), tested (s .args .flags .exponents) (s .pre .1 .1)))
+    let t = c .before .before .before .before .before in
+    let s = t .before .before .before .before .before .before .before .before .before in
+    let ring = usable (s .pre .0 .0) (t .before .before .ring-of .ensures) in
+    ((ring, table-lent (s .pre .0 .0) (t .split-table .result) (t .split-table .ensures)), (s .pre .0 .1, exponents-size s, length-take-le _ _ (evaluations-room s), tested (s .args .flags .exponents) (s .pre .1 .1)))
 
 -- the evaluations stand in front
 module _ (c : tie.After-key-evaluations) where
   abbrev begun : tie.Start
-  begun = c .before .before .before .before .before .before .before .before .before .before .before .before
+  begun = c .before .before .before .before .before .before .before .before .before .before .before .before .before .before .before
 
   abbrev js : List ℕ
   js = take (begun .args .p .t) (begun .args .exponents .now)
 
   worked-out : let a = begun .args in
-      InFront (a .p .t) (keyResidues (a .p) js (a .operand .now)) (c .key-evaluations .last .1 .1 .1 .1 .0 ++ drop (a .p .t) (a .evaluations .now))
+      InFront (a .p .t) (keyResidues (a .p) js (a .operand .now)) (c .key-evaluations .last .1 .1 .1 .1 .1 .0 ++ drop (a .p .t) (a .evaluations .now))
   worked-out =
       let a = begun .args in
       let size = length-evaluation-residues (a .p) (keyIn (a .operand .now)) js ∙ exponents-size begun in
@@ -62,12 +66,12 @@ module _ (c : tie.After-key-evaluations) where
 
 lent-key : tie.Need-slice-aggregate-copy-u8
 lent-key c =
-    let s = c .before .before .before .before .before .before .before .before .before .before .before .before .before .before .before in
+    let s = c .before .before .before .before .before .before .before .before .before .before .before .before .before .before .before .before .before .before in
     sym (length-take-le _ _ (key-room s))
 
 copy-u8-requires : tie.Need-copy-u8-requires
 copy-u8-requires c κs =
-    let s = c .before .before .before .before .before .before .before .before .before .before .before .before .before .before .before in
+    let s = c .before .before .before .before .before .before .before .before .before .before .before .before .before .before .before .before .before .before in
     sym (lent-key c) ∙ sym (s .pre .0 .1)
 
 -- the row prints what is held in signed form
@@ -78,22 +82,27 @@ returns-2 : tie.Need-returns-2
 unfolding loadKey heldIn
 returns-2 c =
     let w = c .before .before .before .before .before .before in
-    let test = w .before .before .before .before .before .before in
+    let test = w .before .before .before .before .before .before .before .before .before in
     let s = begun w in
     let a = s .args in
     let right = sym (test .before .are-key-bytes .ensures) ∙ not-false _ (test .if1 .left) in
     let key = stored (a .p .n) (drop (a .p .n) (a .key .now)) (s .pre .0 .1) (c .before .before .copy-u8 .ensures) .front in
     let vs = keyResidues (a .p) (js w) (a .operand .now) in
-    let below = holds-true (areEvaluations (a .p) vs) (evaluation-residues-below (sound (s .pre .0 .0)) (keyIn (a .operand .now)) (js w)) in
-    (λ m t s'. rw (key, worked-out w .front, below, s .pre .1 .1, right) (same-row (centred-residues (a .p) (keyIn (a .operand .now)) (js w))), refl)
+    let small = holds-true (areEvaluations (a .p) vs) (evaluation-residues-below (sound (s .pre .0 .0)) (keyIn (a .operand .now)) (js w)) in
+    (λ m t s'. rw (key, worked-out w .front, small, s .pre .1 .1, right) (same-row (centred-residues (a .p) (keyIn (a .operand .now)) (js w))), refl)
 
 pub load-key-spec : {M : Type 1} → statement M
 load-key-spec =
     tie.close
     (tie.spec (λ c κs. search needs) (λ c κs. search needs) returns (λ c κs. c .before .before .before .before .before .before .pre .0 .0 .known)
-    (λ c. sym (exponents-size (c .before .before .before .before .before .before .before .before .before .before)))
-    (λ c. evaluations-room (c .before .before .before .before .before .before .before .before .before .before))
-    (λ c. sym (length-take-le _ _ (evaluations-room (c .before .before .before .before .before .before .before .before .before .before .before))))
+    (λ c κs. below (c .before .before .before .before .before .before .before .before .pre .0 .0))
+    (λ c. omega (arith, fitting (c .before .before .before .before .before .before .before .before .before .before .pre .0 .0) .exponents))
+    (λ c. record { fits = omega (arith, table-room (c .before .before .before .before .before .before .before .before .before .before .pre .0 .0)) })
+    (λ c. omega (arith, table-room (c .before .before .before .before .before .before .before .before .before .before .before .pre .0 .0), table-size (c .before .before)))
+    (λ c. sym (table-lent (c .before .before .before .before .before .before .before .before .before .before .before .before .pre .0 .0) (c .before .before .before .split-table .result) (c .before .before .before .split-table .ensures) .size))
+    (λ c. sym (exponents-size (c .before .before .before .before .before .before .before .before .before .before .before .before .before)))
+    (λ c. evaluations-room (c .before .before .before .before .before .before .before .before .before .before .before .before .before))
+    (λ c. sym (length-take-le _ _ (evaluations-room (c .before .before .before .before .before .before .before .before .before .before .before .before .before .before))))
     key-evaluations-requires
-    (λ c. key-room (c .before .before .before .before .before .before .before .before .before .before .before .before .before .before)) lent-key
+    (λ c. key-room (c .before .before .before .before .before .before .before .before .before .before .before .before .before .before .before .before .before)) lent-key
     copy-u8-requires (λ c. search needs) (λ c. search needs) returns-2)

@@ -17,7 +17,6 @@ use Rattle.session_rules.specs.Commands.{signatureRoom}
 use Rattle.session_state.specs.Room.{maskRoom, messageSize}
 use Rattle.session_state.specs.State.{masksHeld}
 use Rattle.session_state.proofs.State.{room}
-use Rattle.session_commands.proofs.LookedUp.{usable}
 use Rattle.session_commands.proofs.SigningCall.{answer-lent, written-lent}
 use Rattle.session_commands.proofs.signer.sign_with.Statement.{statement}
 use Rattle.session_commands.proofs.signer.sign_with.Tie as tie
@@ -49,15 +48,15 @@ module _ (c : tie.After-at-most-eight) where
       ap (λ (k : ℕ). take (k * start .args .p .n) (start .args .masks .now)) (c .at-most-eight .ensures .0)
       ∙ sym (flatten-parts (start .args .p .n) _ (start .args .masks .now))
 
-signature-room : tie.Need-slice-relend-prefix-sign-in
+signature-room : tie.Need-slice-relend-prefix-sign-in-set
 signature-room c =
-    let sized = c .before .before .before .before .before .before .before in
+    let sized = c .before .before .before .before in
     omega (arith, sized .signature-size .ensures .1, sized .before .before .before .before .before .pre .1 .1)
 
 -- the room that is lent has the signature's size
-module _ (c : tie.After-sign-in-arg4) where
+module _ (c : tie.After-sign-in-set-arg4) where
   abbrev sized : tie.After-signature-size
-  sized = c .before .before .before .before .before .before .before .before
+  sized = c .before .before .before .before .before
 
   abbrev begun : tie.Start
   begun = sized .before .before .before .before .before
@@ -70,26 +69,24 @@ module _ (c : tie.After-sign-in-arg4) where
       length-take-le (sized .signature-size .result) (begun .args .signature .now) (omega (arith, sized .signature-size .ensures .1, begun .pre .1 .1))
       ∙ sized .signature-size .ensures .0
 
-sign-in-requires : tie.Need-sign-in-requires
-sign-in-requires c κs = usable (begun c .pre .0 .0) (c .before .before .before .before .before .before .ring-of .ensures)
-
 returns : tie.Need-returns
 returns c =
     let b = c .before .before .before in
-    let offer = b .before .before .before .before .before .before .before in
+    let offer = b .before .before .before .before in
     let s = begun b in
     let a = s .args in
     let key = take (a .p .n) (a .key .now) in
     let js = take (a .p .t) (a .exponents .now) in
     let ys = take (offer .at-most-eight .result * a .p .n) (a .masks .now) in
     let short : length (a .message .now) ≤ messageSize = omega (arith, s .pre .1 .0) in
-    let signed = c .before .before .sign-in in
+    let signed = c .before .before .sign-in-set in
+    let told = rw (← s .pre .0 .0 .is) at (signed .ensures) in
     let behind = drop (sized b .signature-size .result) (a .signature .now) in
     record {
-      answers = signed .ensures .0 ∙ answer-lent (s .pre .0 .0) key js ys (a .message .now) (lent b) short (lent-size b)
+      answers = told .0 ∙ answer-lent (s .pre .0 .0) key js ys (a .message .now) (lent b) short (lent-size b)
           ∙ ap (λ (l : List ℤ). signAnswer (a .flags .set ∷ key) js l (a .message .now) (signatureRoom (a .p))) (masks-held offer);
-      writes = λ told. take-at (signed .last .1 .1 .1 .1 .1 .1 .1 .0) behind (signatureSize (a .p)) (signed .kept .1 .1 .1 .1 .1 .1 .1 .0 ∙ lent-size b)
-          ∙ signed .ensures .1 ∙ written-lent (s .pre .0 .0) key js ys (a .message .now) (lent b) short (lent-size b) (sym (signed .ensures .0) ∙ told)
+      writes = λ say. take-at (signed .last .1 .1 .1 .1 .1 .0) behind (signatureSize (a .p)) (signed .kept .1 .1 .1 .1 .1 .0 ∙ lent-size b)
+          ∙ told .1 ∙ written-lent (s .pre .0 .0) key js ys (a .message .now) (lent b) short (lent-size b) (sym (told .0) ∙ say)
           ∙ ap (λ (l : List ℤ). signWritten (a .flags .set ∷ key) js l (a .message .now) (signatureRoom (a .p))) (masks-held offer);
     }
 
@@ -97,8 +94,7 @@ pub sign-with-spec : {M : Type 1} → statement M
 sign-with-spec =
     tie.close
     (tie.spec (λ c κs. limited (c .before .before .before .before)) (λ c κs. search needs) (λ c. omega (arith, offered c))
-    (λ c κs. c .before .before .before .before .before .before .pre .0 .0 .known)
-    (λ c. sym (key-size (c .before .before .before .before .before .before .before .before .before .before)))
-    (λ c. sym (exponents-size (c .before .before .before .before .before .before .before .before .before .before .before)))
-    (λ c. sym (offered-size (c .before .before .before .before .before .before))) signature-room
-    (λ c. sym (length-take-le _ _ (signature-room (c .before)))) sign-in-requires (λ c. search needs) returns)
+    (λ c. sym (key-size (c .before .before .before .before .before .before .before)))
+    (λ c. sym (exponents-size (c .before .before .before .before .before .before .before .before)))
+    (λ c. sym (offered-size (c .before .before .before))) signature-room
+    (λ c. sym (length-take-le _ _ (signature-room (c .before)))) (λ c κs. begun c .pre .0 .0 .known) (λ c. search needs) returns)

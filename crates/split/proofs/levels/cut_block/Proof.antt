@@ -25,7 +25,7 @@ product-small c =
     let l = c .before .before .before .before .before .loop in
     let small = second-under (l .inv .1) (s .pre .1 .2) (l .i) (omega arith) (omega arith) in
     let product = product-below {a = c .before .before .wide .result} {b = c .wide2 .result} {m = 2 ^ 20} {n = 2 ^ 26}
-        (omega (arith, c .before .before .wide .ensures .0, s .pre .0 .2, s .pre .0 .0 .to)) (omega (arith, c .wide2 .ensures .0, small, s .pre .0 .0 .to)) in
+    (omega (arith, c .before .before .wide .ensures .0, s .pre .0 .2, s .pre .0 .0 .to)) (omega (arith, c .wide2 .ensures .0, small, s .pre .0 .0 .to)) in
     omega (arith, product)
 
 -- the first number of the pair

@@ -35,7 +35,7 @@ product-small c =
     let s = c .before .before .before .before .before .before .before in
     let small = pair-small (c .before .before) in
     let product = product-below {a = c .before .wide .result} {b = c .wide2 .result} {m = 2 ^ 20} {n = 2 ^ 27}
-        (omega (arith, c .before .wide .ensures .0, s .pre .0 .2, s .pre .0 .0 .to)) (omega (arith, c .wide2 .ensures .0, small .0, s .pre .0 .0 .to)) in
+    (omega (arith, c .before .wide .ensures .0, s .pre .0 .2, s .pre .0 .0 .to)) (omega (arith, c .wide2 .ensures .0, small .0, s .pre .0 .0 .to)) in
     omega (arith, product)
 
 loop-again : tie.Need-loop-again Inv-loop μ-loop

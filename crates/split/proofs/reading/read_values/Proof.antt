@@ -16,7 +16,6 @@ Inv-loop values exponents out₀ i₀ out i = Filled (map (λ (e : ℕ). getD va
 abbrev μ-loop : tie.MeasureT-loop
 μ-loop values exponents out₀ i₀ out i = length exponents - i
 
-
 -- the exponent that a turn reads
 positive : (c : tie.After-shared-slice-known Inv-loop μ-loop) → 0 < getD (c .before .before .before .args .exponents .now) (c .before .before .loop .i) 0
 positive c = c .before .before .before .pre .0 .positive (c .before .before .loop .i) (omega arith)
