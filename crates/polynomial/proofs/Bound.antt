@@ -9,9 +9,9 @@ use native.Mathlib.Nat.{le-trans, mul-le-mul-left, mul-one}
 use native.Mathlib.Omega.{arith}
 use lib.Dec.{T, leb, leb→le, le→leb}
 use lib.IntN.{ℤ, pos, natAbs}
-use lib.ListN.{length, take, drop, length-take}
+use lib.ListN.{length, take, drop, replicate, length-take}
 use lib.Seq.{getD-take}
-use Rattle.algebra.proofs.All.{all-from, all-more, all-drop, all-step, all-done}
+use Rattle.algebra.proofs.All.{all-from, all-drop, all-step, all-done}
 use Rattle.algebra.proofs.Test.{and-left, and-right, and-intro}
 use Rattle.algebra.proofs.Absolute.{abs-add, abs-neg, abs-mul}
 use Rattle.algebra.specs.Integer.{within}
@@ -34,11 +34,10 @@ within-take k i f t = within-each k (take i f) (λ j l. rw (getD-take i f j (pos
 pub within-drop : (k i : ℕ) (f : List ℤ) → T (within k f) → T (within k (drop i f))
 within-drop k i f t = all-drop (λ (a : ℤ). leb (natAbs a) k) i f t
 
--- one coefficient more
-pub within-next : (k : ℕ) (f : List ℤ) (i : ℕ) → i < length f → T (within k (take i f)) → natAbs (coefficient f i) ≤ k → T (within k (take (i + 1) f))
-within-next k f i l t h =
-    let test = leb (natAbs (coefficient f i)) k in
-    rw (all-more (λ (a : ℤ). leb (natAbs a) k) f i (pos 0) l) (and-intro (within k (take i f)) test t (le→leb (natAbs (coefficient f i)) k h))
+-- zeros
+pub within-zeros : (k n : ℕ) → T (within k (replicate n (pos 0)))
+within-zeros k zero = tt
+within-zeros k (suc n) = and-intro (leb 0 k) (within k (replicate n (pos 0))) (le→leb 0 k zero-le) (within-zeros k n)
 
 -- ---- the laws
 pub within-mono : {k l : ℕ} → k ≤ l → (f : List ℤ) → T (within k f) → T (within l f)

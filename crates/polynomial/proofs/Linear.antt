@@ -7,7 +7,7 @@ use Prim.Native.Nat.{ℕ, zero, suc, _≤_, _<_, max, zero-le}
 use native.Mathlib.Nat.{le-of-suc-le-suc, not-suc-le-zero}
 use native.Mathlib.Omega.{arith}
 use lib.IntN.{ℤ, pos, _+ℤ_, _*ℤ_, negℤ, +ℤ-comm, +ℤ-assoc, +ℤ-idl, +ℤ-idr, zero-*ℤ, *ℤ-zero}
-use lib.ListN.{length, take, set}
+use lib.ListN.{length, take, set, replicate}
 use Rattle.algebra.proofs.Ring.{ring}
 use Rattle.polynomial.specs.Polynomial.{coefficient, add, scale, neg, sub, push, rotate, star, zOf}
 use Rattle.polynomial.specs.Rotation.{rotations}
@@ -114,6 +114,12 @@ pub add-none : (h f : List ℤ) → length f ≤ length h → add h (scale (pos 
 add-none h [] l = add-nil h
 add-none [] (x ∷ f) l = absurd (not-suc-le-zero l)
 add-none (a ∷ h) (x ∷ f) l = ap₂ _∷_ (ap (λ (u : ℤ). a +ℤ u) (zero-*ℤ x) ∙ +ℤ-idr a) (add-none h f (le-of-suc-le-suc l))
+
+-- nor do zeros, where they are not more than the other summand's coefficients
+pub add-zeros : (n : ℕ) (f : List ℤ) → n ≤ length f → add (replicate n (pos 0)) f ≡ f
+add-zeros zero f l = refl
+add-zeros (suc n) [] l = absurd (not-suc-le-zero l)
+add-zeros (suc n) (a ∷ f) l = ap₂ _∷_ (+ℤ-idl a) (add-zeros n f (le-of-suc-le-suc l))
 
 -- ---- h + a f, where the first i coefficients of f are added
 module _ (a : ℤ) where

@@ -32,9 +32,9 @@ pub record Summed (n : ℕ) (t : List ℕ) (f : List ℤ) (j : ℕ) (acc : ℤ) 
   pub value : acc ≡ sum (readTerm n t f j) i
 
 -- ---- the product
--- a times f may be added to z: the sum fits 32 bits
-pub record Addable (z f : List ℤ) (a : ℤ) : Type 0 where
-  pub size : length f ≡ length z
-  pub room : T (within (2 ^ 16) z)
+-- a times f may be added to the sums: they fit 16 bits still
+pub record Addable (sums f : List ℤ) (a : ℤ) : Type 0 where
+  pub size : length f ≡ length sums
+  pub room : T (within (2 ^ 14) sums)
   pub small : T (ternary f)
   pub factor : natAbs a ≤ 1

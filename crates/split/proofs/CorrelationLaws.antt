@@ -124,7 +124,8 @@ module _ {p : Params} {order twists rows : List ℕ} (sound : Sound p) (several 
               cong-trans (cong-eq (ap (entry out) (sym none)))
               (cong-trans (eq-residue positive (stages .joined .each 0 e v (omega arith) he hv))
               (cong-eq
-              (sum-same (λ (s : ℕ). pos (root (0 * k + s) ^ e) *ℤ entry (stages .ys) ((0 * k + s) * l + v)) (λ (s : ℕ). pos (root s ^ e) *ℤ entry (stages .ys) (s * l + v)) k
+              (sum-same (λ (s : ℕ). pos (root (0 * k + s) ^ e) *ℤ entry (stages .ys) ((0 * k + s) * l + v)) (λ (s : ℕ). pos (root s ^ e) *ℤ entry
+              (stages .ys) (s * l + v)) k
               (λ s hs.
               let first : 0 * k + s ≡ s = omega (arith, zero-mul k) in
               ap (λ (n : ℕ). pos (root n ^ e) *ℤ entry (stages .ys) (n * l + v)) first))));

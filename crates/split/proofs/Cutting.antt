@@ -44,11 +44,20 @@ module _ {q start : ℕ} {twists : List ℕ} (tree : Tree q start twists) (l : �
       room = node-room h b nodes node
 
       -- half j of the node's block
-      part-value : (j i : ℕ) → j < 2 → i < h → Cong q (entry new ((b * 2 + j) * h + i)) (entry old (low i) +ℤ pos (halfTwist (tree .twisted) (positive tree) nodes b j) *ℤ entry old (high i))
+      part-value : (j i : ℕ) → j < 2 → i < h → Cong q (entry new ((b * 2 + j) * h + i)) (entry old (low i) +ℤ pos (halfTwist (tree .twisted)
+          (positive tree) nodes b j) *ℤ entry old (high i))
       part-value j i hj hi =
           by-test (eqb j 0)
           (λ t.
-          let place : (b * 2 + j) * h + i ≡ low i = omega (arith, eqb-true j 0 t, add-mul (b * 2) j h, mul-assoc b 2 h, ap (λ (x : ℕ). x * h) (eqb-true j 0 t), zero-mul h) in
+          let place : (b * 2 + j) * h + i ≡ low i = omega (
+            arith,
+            eqb-true j 0 t,
+            add-mul (b * 2) j h,
+            mul-assoc b 2 h,
+            ap (λ (x : ℕ). x * h)
+                (eqb-true j 0 t),
+            zero-mul h,
+          ) in
           rw t
           (cong-trans (cong-eq (ap pos (ap (λ (x : ℕ). getD new x 0) place ∙ level .first b i node hi)))
           (cut-low (tree .modulus) (getD twists (nodes + b) 0) (getD old (low i) 0) (getD old (high i) 0) (twist-below tree nodes half all two b node)

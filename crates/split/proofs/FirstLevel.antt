@@ -65,7 +65,15 @@ module _ {q : ℕ} {twists : List ℕ} (tree : Tree q 3 twists) (l : ℕ) {old :
       one-under k m =
           ⊎-elim
           (λ (a : k < h).
-          omega (arith, thirds .first k a, thrice, old-at n small k (omega arith), old-at n small (h + k) (omega arith), old-at n small (h + h + k) (omega arith)))
+          omega (
+            arith,
+            thirds .first k a,
+            thrice,
+            old-at n small k (omega arith),
+            old-at n small (h + k) (omega arith),
+            old-at n small (h + h + k)
+                (omega arith),
+          ))
           (λ (a : h ≤ k).
           ⊎-elim
           (λ (b : k < h + h).
@@ -76,7 +84,8 @@ module _ {q : ℕ} {twists : List ℕ} (tree : Tree q 3 twists) (l : ℕ) {old :
             ap (λ (j : ℕ). getD new j 0) at,
             thirds .second i (omega arith),
             least,
-            third-high-below (tree .modulus) (getD twists 1 0) (getD twists 2 0) (getD old i 0) (getD old (h + i) 0) (getD old (h + h + i) 0) first-twist second-twist
+            third-high-below (tree .modulus) (getD twists 1 0) (getD twists 2 0) (getD old i 0) (getD old (h + i) 0) (getD old
+                (h + h + i) 0) first-twist second-twist
                 (old-under i (omega arith)) (old-under (h + i) (omega arith)) (old-under (h + h + i) (omega arith)),
           ))
           (λ (b : h + h ≤ k).
@@ -87,7 +96,8 @@ module _ {q : ℕ} {twists : List ℕ} (tree : Tree q 3 twists) (l : ℕ) {old :
             ap (λ (j : ℕ). getD new j 0) at,
             thirds .third i (omega arith),
             least,
-            third-high-below (tree .modulus) (getD twists 2 0) (getD twists 1 0) (getD old i 0) (getD old (h + i) 0) (getD old (h + h + i) 0) second-twist first-twist
+            third-high-below (tree .modulus) (getD twists 2 0) (getD twists 1 0) (getD old i 0) (getD old (h + i) 0) (getD old
+                (h + h + i) 0) second-twist first-twist
                 (old-under i (omega arith)) (old-under (h + i) (omega arith)) (old-under (h + h + i) (omega arith)),
           ))
           (lt-or-le k (h + h)))

@@ -4,7 +4,8 @@ use mathlib.Core.Path.{_≡_, refl, sym, ap, _∙_}
 use mathlib.Core.List.{List}
 use mathlib.Core.Logic.{⊎-elim}
 use Prim.Native.Nat.{ℕ, zero, suc, _+_, _-_, _*_, _/_, _^_, _%_, _<_, _≤_}
-use native.Mathlib.Nat.{add-mul, mul-add, mul-assoc, mul-comm, mul-one, pow-zero, pow-suc, mod-lt, div-add-mod, mul-div-cancel, mul-le-mul-right, pow-le-pow-right, one-le-pow, mul-le-mul, mul-le-mul-left}
+use native.Mathlib.Nat.{add-mul, mul-add, mul-assoc, mul-comm, mul-one, pow-zero, pow-suc}
+use native.Mathlib.Nat.{mod-lt, div-add-mod, mul-div-cancel, mul-le-mul-right, pow-le-pow-right, one-le-pow, mul-le-mul, mul-le-mul-left}
 use native.Mathlib.Omega.{arith}
 use lib.ListN.{length, getD}
 use Rattle.algebra.proofs.Test.{lt-or-le}
@@ -31,7 +32,12 @@ pub start-some : {q start : ℕ} {twists : List ℕ} → Tree q start twists →
 start-some tree = ⊎-elim (λ e. omega (arith, e)) (λ e. omega (arith, e)) (tree .starts)
 
 pub nodes-some : {start k nodes leaves : ℕ} → Height start k nodes leaves → 0 < start → 0 < nodes
-nodes-some {start} at some = omega (arith, at .nodes-are, mul-le-mul {n₁ = 1} {m₁ = 1} {n₂ = start} {m₂ = 2 ^ at .up} some (one-le-pow (at .up) 2 (omega arith)))
+nodes-some {start} at some = omega (
+  arith,
+  at .nodes-are,
+  mul-le-mul {n₁ = 1} {m₁ = 1} {n₂ = start} {m₂ = 2 ^ at .up} some (one-le-pow (at .up) 2
+      (omega arith)),
+)
 
 pub nodes-least : {start k nodes leaves : ℕ} → Height start k nodes leaves → start ≤ nodes
 nodes-least {start} at = omega (arith, at .nodes-are, mul-le-mul-left start (one-le-pow (at .up) 2 (omega arith)), mul-one start)
@@ -91,7 +97,8 @@ module _ {start k nodes leaves : ℕ} (at : Height start k nodes leaves) (more :
       record {
         up = suc (at .up);
         down = below;
-        nodes-are = double nodes ∙ ap (λ (x : ℕ). x * 2) (at .nodes-are) ∙ mul-assoc start (2 ^ at .up) 2 ∙ ap (λ (x : ℕ). start * x) (sym (pow-suc 2 (at .up)));
+        nodes-are = double nodes ∙ ap (λ (x : ℕ). x * 2) (at .nodes-are) ∙ mul-assoc start (2 ^ at .up) 2 ∙ ap (λ (x : ℕ). start * x) (sym (pow-suc 2
+            (at .up)));
         leaves-are = half-of;
         shallow = omega (arith, at .shallow, lower (at .down) (at .leaves-are));
         all = ap (λ (x : ℕ). x * (leaves / 2)) (double nodes) ∙ mul-assoc nodes 2 (leaves / 2) ∙ ap (λ (x : ℕ). nodes * x) two-halves ∙ at .all;

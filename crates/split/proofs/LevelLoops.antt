@@ -10,7 +10,8 @@ use Rattle.split_tables.specs.Split.{PowerOfTwo}
 use Rattle.split.specs.Levels.{UnderIn, Level, Tree, Cut, CutFurther, Joined, JoinedFurther, rootOf, cutLow, cutHigh, joinLow, joinHigh}
 use Rattle.split.proofs.TreeBounds.{nodes-size, twist-below, half-some}
 use Rattle.split.proofs.PairValues.{cut-grows, join-high-below}
-use Rattle.split.proofs.Heights.{Height, height-first, first-up, down-up, height-last, height-down, height-up, two-halves, two-pairs, power-of, leaves-few, level-under, nodes-some, nodes-least, start-some}
+use Rattle.split.proofs.Heights.{Height, height-first, first-up, down-up, height-last, height-down, height-up}
+use Rattle.split.proofs.Heights.{two-halves, two-pairs, power-of, leaves-few, level-under, nodes-some, nodes-least, start-some}
 use Rattle.split.proofs.Cutting.{level-cuts}
 use Rattle.split.proofs.Joining.{level-joins}
 
@@ -74,7 +75,8 @@ module _ {q start : ℕ} {twists : List ℕ} (tree : Tree q start twists) (l : �
         let larger = level-under {old-bound = (3 + 3 * s .at .up) * q} {new-bound = (3 + 3 * s .at .up) * q + 3 * q} level
         (record { each = λ k h. s .under .each k (omega (arith, cut-size)) })
         (λ b x y hb hx hy.
-        cut-grows (tree .modulus) (getD twists (nodes + b) 0) x y (twist-below tree nodes half halves two b hb) (omega (arith, bound)) (omega (arith, bound)) hx) in
+        cut-grows (tree .modulus) (getD twists (nodes + b) 0) x y (twist-below tree nodes half halves two b hb) (omega (arith, bound)) (omega
+        (arith, bound)) hx) in
         record {
           at = height-down (s .at) more;
           size = level .size ∙ s .size;
@@ -97,7 +99,8 @@ module _ {q start : ℕ} {twists : List ℕ} (tree : Tree q start twists) (l : �
   pub join-first : UnderIn (3 * q) old 0 (length old) → JoinTo q start l twists old old (length twists) 1
   join-first under = record { at = height-last tree; size = refl; under = under; joined = record { each = λ u c. c } }
 
-  module _ {new : List ℕ} {nodes leaves : ℕ} (s : JoinTo q start l twists old new nodes leaves) (more : start < nodes) (room : length old ≡ length twists * l) where
+  module _ {new : List ℕ} {nodes leaves : ℕ} (s : JoinTo q start l twists old new nodes leaves) (more : start < nodes)
+      (room : length old ≡ length twists * l) where
     abbrev pairs : ℕ
     pairs = nodes / 2
 
@@ -134,7 +137,8 @@ module _ {q start : ℕ} {twists : List ℕ} (tree : Tree q start twists) (l : �
         record { each = λ k h. join-under .each k (omega (arith, nodes-size pairs leaves l (length twists) doubles)) } in
         let some : 1 ≤ leaves = half-some two in
         let least : 3 * q ≤ 3 * leaves * q = mul-le-mul-right q (omega (arith, some)) in
-        let twice : 3 * leaves * q + 3 * leaves * q ≡ 3 * (leaves + leaves) * q = sym (add-mul (3 * leaves) (3 * leaves) q) ∙ ap (λ (x : ℕ). x * q) (omega arith) in
+        let twice : 3 * leaves * q + 3 * leaves * q ≡ 3 * (leaves + leaves) * q = sym (add-mul (3 * leaves) (3 * leaves) q) ∙ ap (λ (x : ℕ). x * q)
+        (omega arith) in
         let larger = level-under {old-bound = 3 * leaves * q} {new-bound = 3 * leaves * q + 3 * leaves * q} level
         (record { each = λ k h. s .under .each k (omega (arith, join-size)) })
         (λ b x y hb hx hy. (
@@ -168,7 +172,8 @@ cut-done {q} {start} {l} {twists} {old} {new} {nodes} {leaves} s last =
     let first = CutFurther q l (rootOf q twists) start (length twists / start) old in
     (under-weaker bound (s .under), subst (λ (n : ℕ). first n 1 new) all (subst (λ (m : ℕ). first nodes m new) one (s .cut)))
 
-pub join-done : {q start l : ℕ} {twists old new : List ℕ} {nodes leaves : ℕ} → Tree q start twists → JoinTo q start l twists old new nodes leaves → nodes ≤ start
+pub join-done : {q start l : ℕ} {twists old new : List ℕ} {nodes leaves : ℕ} → Tree q start twists → JoinTo q start l twists old new nodes leaves
+    → nodes ≤ start
     → UnderIn (48 * q) new 0 (length new) × JoinedFurther q l (rootOf q twists) (length twists) 1 old start (length twists / start) new
 join-done {q} {start} {l} {twists} {old} {new} {nodes} {leaves} tree s last =
     let same : nodes ≡ start = omega (arith, last, nodes-least (s .at)) in

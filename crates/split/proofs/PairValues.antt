@@ -30,7 +30,8 @@ neg-times c b = simp ring
 
 module _ {q : ℕ} (modulus : Modulus q) (c a b : ℕ) (c-below : c < q) (a-below : a < 61 * q) (b-below : b < 61 * q) where
   product-small : c * b < 2 ^ 51
-  product-small = let product = product-below {a = c} {b = b} {m = 2 ^ 20} {n = 2 ^ 26} (omega (arith, modulus .to)) (omega (arith, modulus .to)) in omega (arith, product)
+  product-small = let product = product-below {a = c} {b = b} {m = 2 ^ 20} {n = 2 ^ 26} (omega (arith, modulus .to)) (omega (arith, modulus .to)) in omega
+      (arith, product)
 
   turned : Cong q (pos (folded q (c * b))) (pos c *ℤ pos b)
   turned = folded-cong modulus (c * b) product-small
@@ -75,7 +76,8 @@ module _ {q : ℕ} (modulus : Modulus q) (c a b : ℕ) (c-below : c < q) (a-belo
       (cong-trans (cong-eq (spread (pos c) (pos a) (negℤ (pos b))))
       (cong-add (cong-refl (pos c *ℤ pos a)) (cong-trans (cong-eq (over (pos c) (pos b))) (cong-mul (cong-sym other) (cong-refl (pos b)))))))
 
-module _ {q : ℕ} (modulus : Modulus q) (c d a b e : ℕ) (c-below : c < q) (d-below : d < q) (a-below : a < 61 * q) (b-below : b < 61 * q) (e-below : e < 61 * q) where
+module _ {q : ℕ} (modulus : Modulus q) (c d a b e : ℕ) (c-below : c < q) (d-below : d < q) (a-below : a < 61 * q) (b-below : b < 61 * q)
+    (e-below : e < 61 * q) where
   third-small : a + c * b + d * e < 2 ^ 51
   third-small =
       let first = product-below {a = c} {b = b} {m = 2 ^ 20} {n = 2 ^ 26} (omega (arith, modulus .to)) (omega (arith, modulus .to)) in

@@ -150,7 +150,12 @@ module _ {q : ℕ} {twists : List ℕ} (tree : Tree q 3 twists) (third l : ℕ) 
         let here : a * h + i < length twists * l =
         omega (arith, mul-le-mul-right {m = a + 1} {n = 3} h (omega arith), add-mul a 1 h, mul-assoc 3 third l, ap (λ (x : ℕ). x * l) all) in
         let none : 0 * length twists + leaf ≡ leaf = omega (arith, zero-mul (length twists)) in
-        let same : 0 * (length twists * l) + (a * h + i) ≡ 0 * (3 * third * l) + (a * h + i) = omega (arith, zero-mul (length twists * l), zero-mul (3 * third * l)) in
+        let same : 0 * (length twists * l) + (a * h + i) ≡ 0 * (3 * third * l) + (a * h + i) = omega (
+          arith,
+          zero-mul (length twists * l),
+          zero-mul
+              (3 * third * l),
+        ) in
         cong-trans (cong-eq (ap (entry old) (sym same)))
         (cong-trans (eq-residue (positive tree) (cut .each 0 leaf (a * h + i) (omega arith) below here))
         (cong-eq
@@ -163,7 +168,8 @@ module _ {q : ℕ} {twists : List ℕ} (tree : Tree q 3 twists) (third l : ℕ) 
         (cong-trans (part-value j i part place)
         (cong-trans (weighed i leaf-power)
         (cong-trans
-        (cong-eq (sum-same (term (λ (a : ℕ). root leaf ^ (third * a)) i) (λ (a : ℕ). pos (root leaf ^ (third * a)) *ℤ entry old (0 * (3 * third * l) + (a * h + i))) 3
+        (cong-eq (sum-same (term (λ (a : ℕ). root leaf ^ (third * a)) i) (λ (a : ℕ). pos (root leaf ^ (third * a)) *ℤ entry old (0 * (3 * third * l) +
+        (a * h + i))) 3
         (λ a ha. ap (λ (x : ℕ). pos (root leaf ^ (third * a)) *ℤ entry old x) (omega (arith, zero-mul (3 * third * l))))))
         (cut-part q root 3 1 third l (entry u) (entry old) 0 j s i above))))
 
@@ -225,6 +231,7 @@ module _ {q : ℕ} {twists : List ℕ} (tree : Tree q 3 twists) (third l : ℕ) 
               (cong-eq
               (ap (λ (x : ℕ). sum (λ (s : ℕ). pos (root (0 * (3 * third) + s) ^ x) *ℤ entry y ((0 * (3 * third) + s) * l + v)) (3 * third)) same
               ∙ ap (λ (k : ℕ). sum (λ (s : ℕ). pos (root (0 * k + s) ^ e) *ℤ entry y ((0 * k + s) * l + v)) k) all
-              ∙ ap (λ (x : ℕ). sum (λ (s : ℕ). pos (root (x * length twists + s) ^ e) *ℤ entry y ((x * length twists + s) * l + v)) (length twists)) (sym none)))));
+              ∙ ap (λ (x : ℕ). sum (λ (s : ℕ). pos (root (x * length twists + s) ^ e) *ℤ entry y ((x * length twists + s) * l + v)) (length twists))
+              (sym none)))));
         };
       }

@@ -49,7 +49,8 @@ module _ (q : ℕ) (root : ℕ → ℕ) (r nodes leaves l : ℕ) where
 
     -- the parts of a block, summed by powers of the root, where each part is a sum over the blocks of u: a sum over the parts of u
     pub cut-part : ((a : ℕ) → a < r → Cong q (x (b * (r * leaves * l) + (a * (leaves * l) + i))) (remainder u nodes (r * leaves) leaf (a * (leaves * l) + i)))
-        → Cong q (sum (λ (a : ℕ). pos (root leaf ^ (leaves * a)) *ℤ x (b * (r * leaves * l) + (a * (leaves * l) + i))) r) (remainder u (nodes * r) leaves leaf i)
+        → Cong q (sum (λ (a : ℕ). pos (root leaf ^ (leaves * a)) *ℤ x (b * (r * leaves * l) + (a * (leaves * l) + i))) r) (remainder u
+        (nodes * r) leaves leaf i)
     unfolding term
     cut-part at =
         cong-trans
@@ -57,7 +58,8 @@ module _ (q : ℕ) (root : ℕ → ℕ) (r nodes leaves l : ℕ) where
         (λ a h.
         cong-trans (cong-mul (cong-refl (pos (root leaf ^ (leaves * a)))) (at a h))
         (cong-eq
-        (sym (sum-times (pos (root leaf ^ (leaves * a))) (λ (c : ℕ). pos (root leaf ^ (r * leaves * c)) *ℤ u (c * (r * leaves * l) + (a * (leaves * l) + i))) nodes)
+        (sym (sum-times (pos (root leaf ^ (leaves * a))) (λ (c : ℕ). pos (root leaf ^ (r * leaves * c)) *ℤ u (c * (r * leaves * l) + (a *
+        (leaves * l) + i))) nodes)
         ∙ sum-same
         (λ (c : ℕ). pos (root leaf ^ (leaves * a)) *ℤ (pos (root leaf ^ (r * leaves * c)) *ℤ u (c * (r * leaves * l) + (a * (leaves * l) + i)))) (term a) nodes
         (λ c g.
@@ -102,7 +104,8 @@ module _ (q : ℕ) (root : ℕ → ℕ) (r nodes leaves l : ℕ) where
         ∙ one-power (root leaf) (leaves * a) e (a * leaves + e) (omega (arith, mul-comm leaves a)) (y (leaf * l + v)))))))))
         (cong-eq
         (sum-same (λ (j : ℕ). sum (joinTerm j) leaves)
-        (λ (j : ℕ). sum (λ (s : ℕ). pos (root (b * (r * leaves) + (j * leaves + s)) ^ (a * leaves + e)) *ℤ y ((b * (r * leaves) + (j * leaves + s)) * l + v)) leaves) r
+        (λ (j : ℕ). sum (λ (s : ℕ). pos (root (b * (r * leaves) + (j * leaves + s)) ^ (a * leaves + e)) *ℤ y ((b * (r * leaves) +
+        (j * leaves + s)) * l + v)) leaves) r
         (λ j h. sum-same (joinTerm j)
         (λ (s : ℕ). pos (root (b * (r * leaves) + (j * leaves + s)) ^ (a * leaves + e)) *ℤ y ((b * (r * leaves) + (j * leaves + s)) * l + v)) leaves
         (λ s g. ap (λ (z : ℕ). pos (root z ^ (a * leaves + e)) *ℤ y (z * l + v)) (part-place b r j leaves s)))

@@ -109,7 +109,8 @@ module _ {p : Params} {base : ℕ} {powers order : List ℕ} (usable : Usable p 
     sparse-at m h =
         cong-add (cong-refl (coefficient f 0))
         (cong-trans (cong-eq (ap (λ (n : ℕ). sum (λ (i : ℕ). coefficient f (getD order i 0) *ℤ entry t (i + m)) n) (table .size)))
-        (sum-cong (λ (i : ℕ). coefficient f (getD order i 0) *ℤ entry t (i + m)) (λ (i : ℕ). coefficient f (base ^ i % p .n) *ℤ reorderedPowers base p (i + m)) (p .n - 1)
+        (sum-cong (λ (i : ℕ). coefficient f (getD order i 0) *ℤ entry t (i + m)) (λ (i : ℕ). coefficient f (base ^ i % p .n) *ℤ reorderedPowers base p
+        (i + m)) (p .n - 1)
         (λ i hi. cong-mul (cong-eq (ap (coefficient f) (order-at i hi))) (power-at (i + m) (omega arith)))))
 
 -- with the tables of the split

@@ -90,6 +90,7 @@ returns-2 c =
 pub sign-first-spec : {M : Type 1} → statement M
 sign-first-spec =
     tie.close
-    (tie.spec Inv-loop μ-loop (λ c. omega (arith, c .before .before .before .before .pre .0 .0 .fitting .exponents)) loop-holds (λ c. omega (arith, end-in-masks c))
+    (tie.spec Inv-loop μ-loop (λ c. omega (arith, c .before .before .before .before .pre .0 .0 .fitting .exponents)) loop-holds (λ c. omega
+    (arith, end-in-masks c))
     (λ c. omega (arith, end-in-masks c)) (λ c. omega (arith, end-in-masks c)) (λ c. omega arith) (λ c. omega arith) end-in-masks sign-with-mask-requires
     same-length returns add-i (λ c. omega arith) loop-again (λ c. ap length (c .before .loop .inv .2)) returns-2)

@@ -38,4 +38,5 @@ sign-in-set-spec =
     (λ c. sym (lent (c .before .before .before) .size))
     (λ c κs. let t = c .before .before .before .before in (ring t .ring-of .ensures .usable, lent t))
     (λ c. search needs)
-    (λ c. rw (← c .before .before .before .before .before .before .before .before .before .before .ring-of .ensures .params) (c .before .before .sign-in .ensures)))
+    (λ c. rw (← c .before .before .before .before .before .before .before .before .before .before .ring-of .ensures .params)
+    (c .before .before .sign-in .ensures)))

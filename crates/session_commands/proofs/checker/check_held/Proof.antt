@@ -35,8 +35,10 @@ table-size c = search needs
 check-in-requires : tie.Need-check-in-requires
 check-in-requires c κs =
     let t = c .before .before .before .before .before in
-    let s = t .before .before .before .before .before .before .before in
-    ((usable (s .pre .0 .0) (t .before .before .ring-of .ensures), table-lent (s .pre .0 .0) (t .split-table .result) (t .split-table .ensures)), (exponents-size s, evaluations-size s, s .pre .0 .1))
+    let s = t .before .before .before .before .before .before .before in (
+      (usable (s .pre .0 .0) (t .before .before .ring-of .ensures), table-lent (s .pre .0 .0) (t .split-table .result) (t .split-table .ensures)),
+      (exponents-size s, evaluations-size s, s .pre .0 .1),
+    )
 
 -- a verdict that the library gives decides
 module _ (c : tie.After-check-in) where
@@ -80,7 +82,9 @@ check-held-spec =
     (λ c. omega (arith, fitting (c .before .before .before .before .before .before .before .before .pre .0 .0) .exponents))
     (λ c. record { fits = omega (arith, table-room (c .before .before .before .before .before .before .before .before .pre .0 .0)) })
     (λ c. omega (arith, table-room (c .before .before .before .before .before .before .before .before .before .pre .0 .0), table-size (c .before .before)))
-    (λ c. sym (table-lent (c .before .before .before .before .before .before .before .before .before .before .pre .0 .0) (c .before .before .before .split-table .result) (c .before .before .before .split-table .ensures) .size))
+    (λ c. sym (table-lent (c .before .before .before .before .before .before .before .before .before .before .pre .0 .0)
+    (c .before .before .before .split-table .result) (c .before .before .before .split-table .ensures) .size))
     (λ c. sym (exponents-size (c .before .before .before .before .before .before .before .before .before .before .before)))
-    (λ c. sym (evaluations-size (c .before .before .before .before .before .before .before .before .before .before .before .before))) check-in-requires (λ c. search needs)
+    (λ c. sym (evaluations-size (c .before .before .before .before .before .before .before .before .before .before .before .before))) check-in-requires
+    (λ c. search needs)
     (λ c κs. search needs) (λ c. search needs) (λ c κs. search needs) (λ c. search needs) (λ c κs. search needs) returns returns-2 returns-3)

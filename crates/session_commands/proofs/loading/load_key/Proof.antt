@@ -46,8 +46,15 @@ key-evaluations-requires : tie.Need-key-evaluations-requires
 key-evaluations-requires c κs =
     let t = c .before .before .before .before .before in
     let s = t .before .before .before .before .before .before .before .before .before in
-    let ring = usable (s .pre .0 .0) (t .before .before .ring-of .ensures) in
-    ((ring, table-lent (s .pre .0 .0) (t .split-table .result) (t .split-table .ensures)), (s .pre .0 .1, exponents-size s, length-take-le _ _ (evaluations-room s), tested (s .args .flags .exponents) (s .pre .1 .1)))
+    let ring = usable (s .pre .0 .0) (t .before .before .ring-of .ensures) in (
+      (ring, table-lent (s .pre .0 .0) (t .split-table .result) (t .split-table .ensures)),
+      (
+        s .pre .0 .1,
+        exponents-size s,
+        length-take-le _ _ (evaluations-room s),
+        tested (s .args .flags .exponents) (s .pre .1 .1),
+      ),
+    )
 
 -- the evaluations stand in front
 module _ (c : tie.After-key-evaluations) where
@@ -98,11 +105,18 @@ load-key-spec =
     (λ c κs. below (c .before .before .before .before .before .before .before .before .pre .0 .0))
     (λ c. omega (arith, fitting (c .before .before .before .before .before .before .before .before .before .before .pre .0 .0) .exponents))
     (λ c. record { fits = omega (arith, table-room (c .before .before .before .before .before .before .before .before .before .before .pre .0 .0)) })
-    (λ c. omega (arith, table-room (c .before .before .before .before .before .before .before .before .before .before .before .pre .0 .0), table-size (c .before .before)))
-    (λ c. sym (table-lent (c .before .before .before .before .before .before .before .before .before .before .before .before .pre .0 .0) (c .before .before .before .split-table .result) (c .before .before .before .split-table .ensures) .size))
+    (λ c. omega (
+      arith,
+      table-room (c .before .before .before .before .before .before .before .before .before .before .before .pre .0 .0),
+      table-size (c .before .before),
+    ))
+    (λ c. sym (table-lent (c .before .before .before .before .before .before .before .before .before .before .before .before .pre .0 .0)
+    (c .before .before .before .split-table .result) (c .before .before .before .split-table .ensures) .size))
     (λ c. sym (exponents-size (c .before .before .before .before .before .before .before .before .before .before .before .before .before)))
     (λ c. evaluations-room (c .before .before .before .before .before .before .before .before .before .before .before .before .before))
-    (λ c. sym (length-take-le _ _ (evaluations-room (c .before .before .before .before .before .before .before .before .before .before .before .before .before .before))))
+    (λ c. sym (length-take-le _ _ (evaluations-room
+    (c .before .before .before .before .before .before .before .before .before .before .before .before .before .before))))
     key-evaluations-requires
-    (λ c. key-room (c .before .before .before .before .before .before .before .before .before .before .before .before .before .before .before .before .before)) lent-key
+    (λ c. key-room (c .before .before .before .before .before .before .before .before .before .before .before .before .before .before .before .before .before))
+    lent-key
     copy-u8-requires (λ c. search needs) (λ c. search needs) returns-2)

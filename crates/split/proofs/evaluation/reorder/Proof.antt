@@ -25,7 +25,8 @@ abbrev μ-loop : tie.MeasureT-loop
 
 -- the coefficient that a turn reads
 inside : (c : tie.After-shared-slice-known2 Inv-loop μ-loop)
-    → getD (c .before .before .before .before .before .args .order .now) (c .before .before .loop .i) 0 < length (c .before .before .before .before .before .args .f .now)
+    → getD (c .before .before .before .before .before .args .order .now) (c .before .before .loop .i) 0 < length
+    (c .before .before .before .before .before .args .f .now)
 inside c =
     let s = c .before .before .before .before .before in
     below-at _ (s .args .order .now) (s .pre .2) (c .before .before .loop .i) (omega arith)

@@ -80,7 +80,8 @@ returns c =
     let q = s .args .p .q in
     let call = c .before .place in
     let l = c .before .before .before .before .before .lift in
-    let first = l .ensures .0 ∙ ap (λ (z : ℤ). residue z q) (reread w16 (coefficient f 0) (c .before .before .before .before .before .before .lift-arg .given)) in
+    let first = l .ensures .0 ∙ ap (λ (z : ℤ). residue z q) (reread w16 (coefficient f 0)
+    (c .before .before .before .before .before .before .lift-arg .given)) in
     let count = call .ensures .0 ∙ sym (count-values (c .before .before)) in
     let tables = s .pre .1 .parts (s .pre .2) in
     split-values (s .pre .0) (several-of (s .pre .0 .sound) (s .pre .0 .fitting) tables) tables f (s .pre .3) (w .before .split-sums .ensures .1 .stages) first

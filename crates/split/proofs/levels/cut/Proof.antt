@@ -45,4 +45,5 @@ cut-spec =
     (λ c.
     let s = c .before .before .before .before .args in
     let l = c .before .loop in
-    subst (Level (cutLow (s .q)) (cutHigh (s .q)) (λ (b : ℕ). getD (s .twists .now) (s .nodes + b) 0) (s .h) (s .x .now) (l .x)) (omega (arith, l .inv .0)) (l .inv .1)))
+    subst (Level (cutLow (s .q)) (cutHigh (s .q)) (λ (b : ℕ). getD (s .twists .now) (s .nodes + b) 0) (s .h) (s .x .now) (l .x)) (omega (arith, l .inv .0))
+    (l .inv .1)))

@@ -18,8 +18,15 @@ cut-all-spec =
     (λ c κs. let s = c .before .before .before in (s .pre .0, (s .pre .1 .0, s .pre .1 .1, under-weaker (omega arith) (s .pre .1 .2))))
     (λ c κs.
     let s = c .before .before .before .before .before .before .before in
-    let f = c .before .before .before .first-level .ensures in
-    (s .pre .0, (f .0 ∙ s .pre .1 .0, omega (arith, f .0, s .pre .1 .1), under-weaker (omega arith) (f .1 .0 .each 1 (omega arith) (under-weaker (omega arith) (s .pre .1 .2))))))
+    let f = c .before .before .before .first-level .ensures in (
+      s .pre .0,
+      (
+        f .0 ∙ s .pre .1 .0,
+        omega (arith, f .0, s .pre .1 .1),
+        under-weaker (omega arith) (f .1 .0 .each 1 (omega arith) (under-weaker
+            (omega arith) (s .pre .1 .2))),
+      ),
+    ))
     (λ c. c .before .before .cut-levels .ensures .0 ∙ c .before .before .before .before .before .before .first-level .ensures .0)
     (λ c.
     let s = c .before .before .before .before .before .before .before .before .before .before .args in

@@ -45,4 +45,5 @@ join-spec =
     (λ c.
     let s = c .before .before .before .before .args in
     let l = c .before .loop in
-    subst (Level (joinLow (s .q)) (joinHigh (s .q)) (λ (b : ℕ). getD (s .twists .now) (s .nodes + b) 0) (s .h) (s .x .now) (l .x)) (omega (arith, l .inv .0)) (l .inv .1)))
+    subst (Level (joinLow (s .q)) (joinHigh (s .q)) (λ (b : ℕ). getD (s .twists .now) (s .nodes + b) 0) (s .h) (s .x .now) (l .x)) (omega
+    (arith, l .inv .0)) (l .inv .1)))

@@ -47,4 +47,5 @@ evaluate-challenge-spec =
     (λ c. search needs)
     (λ c.
     let s = c .before .before .before .before .before .before .before .before .before .before .before in
-    c .before .before .read-values .ensures ∙ read-residues (c .before .before .before .before .before .challenge-values .ensures) (exponents-of (s .args .p) (s .args .exponents .now) (s .pre .1 .1))))
+    c .before .before .read-values .ensures ∙ read-residues (c .before .before .before .before .before .challenge-values .ensures) (exponents-of
+    (s .args .p) (s .args .exponents .now) (s .pre .1 .1))))
