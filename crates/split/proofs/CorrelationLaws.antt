@@ -10,7 +10,7 @@ use lib.Pow.{pow-add}
 use lib.IntN.{ℤ, pos, _*ℤ_}
 use lib.ListN.{length}
 use Rattle.algebra.specs.Integer.{sum}
-use Rattle.algebra.proofs.Congruence.{Cong, cong-refl, cong-eq, cong-sym, cong-trans, cong-mul, cong-residue, eq-residue}
+use Rattle.algebra.proofs.Congruence.{Cong, cong-refl, cong-eq, cong-trans, cong-mul, cong-residue, eq-residue}
 use Rattle.algebra.proofs.Ring.{*ℤ-idl}
 use Rattle.algebra.proofs.Sum.{sum-cong, sum-same}
 use Rattle.algebra.proofs.Test.{lt-or-le}

@@ -1,18 +1,16 @@
 -- A level of halves cuts: what each block stands for below it.
 -- Assumes nothing.
-use mathlib.Core.Path.{_≡_, refl, sym, ap, ap₂, _∙_}
-use mathlib.Core.Bool.{cond}
+use mathlib.Core.Path.{_≡_, sym, ap, ap₂, _∙_}
 use mathlib.Core.List.{List}
 use Prim.Native.Nat.{ℕ, _+_, _-_, _*_, _/_, _^_, _%_, _<_, _≤_}
-use native.Mathlib.Nat.{add-mul, mul-add, mul-comm, mul-assoc, zero-mul, one-mul, mul-zero, mul-one, pow-zero, mul-le-mul-right, mod-lt, div-add-mod}
+use native.Mathlib.Nat.{add-mul, mul-assoc, zero-mul, one-mul, mul-one, mul-le-mul-right, mod-lt, div-add-mod}
 use native.Mathlib.Omega.{arith}
 use borrow.Author.Tests.{eqb-true, eqb-false}
 use lib.Dec.{eqb}
-use lib.IntN.{ℤ, pos, _+ℤ_, _*ℤ_, +ℤ-idl}
+use lib.IntN.{ℤ, pos, _+ℤ_, _*ℤ_}
 use lib.ListN.{length, getD}
 use Rattle.algebra.specs.Integer.{sum}
-use Rattle.algebra.proofs.Congruence.{Cong, cong-refl, cong-eq, cong-sym, cong-trans, cong-add, cong-mul, residue-eq, eq-residue}
-use Rattle.algebra.proofs.Ring.{*ℤ-idl}
+use Rattle.algebra.proofs.Congruence.{Cong, cong-eq, cong-trans, cong-add, cong-mul, residue-eq, eq-residue}
 use Rattle.algebra.proofs.Test.{by-test}
 use Rattle.transform.specs.Convolution.{entry}
 use Rattle.split_tables.specs.Split.{PowerOfTwo}

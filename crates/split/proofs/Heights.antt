@@ -3,7 +3,7 @@
 use mathlib.Core.Path.{_≡_, refl, sym, ap, _∙_}
 use mathlib.Core.List.{List}
 use mathlib.Core.Logic.{⊎-elim}
-use Prim.Native.Nat.{ℕ, zero, suc, _+_, _-_, _*_, _/_, _^_, _%_, _<_, _≤_}
+use Prim.Native.Nat.{ℕ, suc, _+_, _-_, _*_, _/_, _^_, _%_, _<_, _≤_}
 use native.Mathlib.Nat.{add-mul, mul-add, mul-assoc, mul-comm, mul-one, pow-zero, pow-suc}
 use native.Mathlib.Nat.{mod-lt, div-add-mod, mul-div-cancel, mul-le-mul-right, pow-le-pow-right, one-le-pow, mul-le-mul, mul-le-mul-left}
 use native.Mathlib.Omega.{arith}

@@ -2,7 +2,7 @@
 -- Assumes nothing.
 use mathlib.Core.Path.{_≡_, sym, ap, ap₂, _∙_}
 use mathlib.Core.List.{List}
-use Prim.Native.Nat.{ℕ, _+_, _-_, _*_, _/_, _^_, _%_, _<_, _≤_}
+use Prim.Native.Nat.{ℕ, _+_, _-_, _*_, _/_, _^_, _%_, _<_}
 use native.Mathlib.Nat.{add-mul, mul-assoc, mul-comm, zero-mul, one-mul, pow-zero, pow-suc, mul-le-mul-right, mod-lt, div-add-mod}
 use native.Mathlib.Omega.{arith}
 use borrow.Author.Tests.{eqb-true, eqb-false}
@@ -10,7 +10,7 @@ use lib.Dec.{eqb}
 use lib.IntN.{ℤ, pos, _+ℤ_, _*ℤ_}
 use lib.ListN.{length, getD}
 use Rattle.algebra.specs.Integer.{sum}
-use Rattle.algebra.proofs.Congruence.{Cong, cong-refl, cong-eq, cong-sym, cong-trans, cong-add, cong-mul, residue-eq, eq-residue}
+use Rattle.algebra.proofs.Congruence.{Cong, cong-eq, cong-trans, residue-eq, eq-residue}
 use Rattle.algebra.proofs.Ring.{*ℤ-idl}
 use Rattle.algebra.proofs.Test.{by-test}
 use Rattle.transform.specs.Convolution.{entry}

@@ -2,11 +2,10 @@
 -- Assumes nothing.
 use mathlib.Core.Path.{_≡_, refl, sym, ap, _∙_, subst}
 use mathlib.Core.List.{List}
-use Prim.Native.Nat.{ℕ, suc, _+_, _*_, _/_, _<_, _≤_}
-use native.Mathlib.Nat.{add-mul, mul-add, mul-assoc, mul-comm, mul-one, one-mul, mul-div-cancel, mul-le-mul-left, mul-le-mul-right}
+use Prim.Native.Nat.{ℕ, _+_, _*_, _/_, _<_, _≤_}
+use native.Mathlib.Nat.{add-mul, mul-assoc, mul-comm, mul-one, one-mul, mul-div-cancel, mul-le-mul-left, mul-le-mul-right}
 use native.Mathlib.Omega.{arith}
 use lib.ListN.{length, getD}
-use Rattle.split_tables.specs.Split.{PowerOfTwo}
 use Rattle.split.specs.Levels.{UnderIn, Level, Tree, Cut, CutFurther, Joined, JoinedFurther, rootOf, cutLow, cutHigh, joinLow, joinHigh}
 use Rattle.split.proofs.TreeBounds.{nodes-size, twist-below, half-some}
 use Rattle.split.proofs.PairValues.{cut-grows, join-high-below}

@@ -1,19 +1,15 @@
 -- What a pair is taken to at a level, modulo q: sums with the twists of the two halves.
 -- Assumes nothing.
-use mathlib.Core.Path.{_≡_, refl, sym, ap, _∙_}
-use mathlib.Core.Bool.{cond}
+use mathlib.Core.Path.{_≡_, sym, ap}
 use Prim.Native.Nat.{ℕ, _+_, _-_, _*_, _^_, _<_, _≤_}
 use native.Mathlib.Nat.{mul-comm}
 use native.Mathlib.Omega.{arith}
-use borrow.Author.Tests.{eqb-true, eqb-false}
-use lib.Dec.{eqb}
 use lib.IntN.{ℤ, pos, _+ℤ_, _*ℤ_, negℤ}
 use Rattle.algebra.proofs.Congruence.{Cong, cong-refl, cong-eq, cong-sym, cong-trans, cong-add, cong-mul, cong-neg}
 use Rattle.algebra.proofs.Remainder.{product-below}
 use Rattle.algebra.proofs.Ring.{ring}
-use Rattle.algebra.proofs.Test.{by-test}
 use Rattle.split.specs.Fold.{Modulus, folded}
-use Rattle.split.specs.Levels.{cutLow, cutHigh, joinLow, joinHigh, thirdLow, thirdHigh}
+use Rattle.split.specs.Levels.{cutLow, cutHigh, joinHigh, thirdHigh}
 use Rattle.split.proofs.FoldLaws.{folded-cong, folded-below}
 
 move : (a f w : ℤ) → a +ℤ f ≡ w → a ≡ negℤ f +ℤ w

@@ -2,22 +2,18 @@
 -- Assumes nothing.
 use mathlib.Core.Path.{_≡_, sym, ap, _∙_, subst}
 use mathlib.Core.List.{List, [], _∷_}
-use Prim.Native.Nat.{ℕ, zero, suc, _+_, _-_, _*_, _/_, _<_, _≤_}
+use Prim.Native.Nat.{ℕ, _-_, _*_, _/_, _<_, _≤_}
 use native.Mathlib.Nat.{mul-le-mul-left, mul-one}
 use native.Mathlib.Omega.{arith}
-use lib.Dec.{T}
 use lib.ListN.{length, getD, take, drop, length-drop}
-use lib.Seq.{take-length, length-take-le}
-use Rattle.algebra.specs.All.{areBelow}
+use lib.Seq.{take-length}
 use Rattle.parameters.specs.declared.Params.{Params}
 use Rattle.parameters.specs.Sound.{Sound, Fitting}
 use Rattle.transform.specs.Generator.{GeneratorTable}
-use Rattle.transform.proofs.GeneratorLaws.{table-below}
-use Rattle.split_tables.specs.Split.{PowerOfTwo, SplitTables, SplitTable, shapeOf, splitFrom}
+use Rattle.split_tables.specs.Split.{SplitTables, shapeOf}
 use Rattle.split.specs.Fold.{Modulus}
-use Rattle.split.specs.Levels.{Tree}
 use Rattle.split.specs.Values.{Staged}
-use Rattle.split.proofs.Shapes.{Usual, usual}
+use Rattle.split.proofs.Shapes.{usual}
 use Rattle.split.proofs.CorrelationLaws.{twisted, rowed, whole}
 
 by-length : {n : ℕ} (t : List ℕ) → length t ≡ n - 1 → getD t 0 0 ≡ 1 → 1 < n

@@ -2,14 +2,14 @@
 -- Assumes nothing.
 use mathlib.Core.Path.{_≡_, refl, sym, ap, ap₂, _∙_}
 use mathlib.Core.List.{List}
-use Prim.Native.Nat.{ℕ, zero, suc, _+_, _-_, _*_, _/_, _^_, _%_, _<_, _≤_}
+use Prim.Native.Nat.{ℕ, zero, suc, _+_, _-_, _*_, _/_, _^_, _%_, _<_}
 use native.Mathlib.Nat.{add-mul, mul-assoc, mul-comm, zero-mul, one-mul, pow-zero, pow-suc, mul-le-mul-right, mod-lt, div-add-mod}
 use native.Mathlib.Omega.{arith}
 use lib.IntN.{ℤ, pos, _+ℤ_, _*ℤ_}
 use lib.ListN.{length, getD}
 use Rattle.algebra.specs.Integer.{sum}
 use Rattle.algebra.proofs.All.{below-at}
-use Rattle.algebra.proofs.Congruence.{Cong, cong-refl, cong-eq, cong-sym, cong-trans, cong-add, cong-mul, cong-residue, residue-eq, eq-residue}
+use Rattle.algebra.proofs.Congruence.{Cong, cong-refl, cong-eq, cong-sym, cong-trans, cong-mul, cong-residue, residue-eq, eq-residue}
 use Rattle.algebra.proofs.Remainder.{pow-pow}
 use Rattle.algebra.proofs.Ring.{*ℤ-idl}
 use Rattle.algebra.proofs.Sum.{sum-cong, sum-same}

@@ -1,8 +1,8 @@
 -- One level of the tree, into any number r of parts: what the cut of all blocks gives, and what their joining gives. Sequences in the place of lists.
 -- Assumes nothing.
-use mathlib.Core.Path.{_≡_, refl, sym, ap, _∙_}
+use mathlib.Core.Path.{_≡_, sym, ap, _∙_}
 use Prim.Native.Nat.{ℕ, zero, suc, _+_, _*_, _^_, _<_}
-use native.Mathlib.Nat.{add-mul, mul-add, mul-assoc, mul-comm, mul-zero, suc-mul, pow-zero, pow-suc}
+use native.Mathlib.Nat.{add-mul, mul-add, mul-assoc, mul-comm, mul-zero, pow-zero, pow-suc}
 use native.Mathlib.Omega.{arith}
 use lib.Pow.{pow-add}
 use lib.IntN.{ℤ, pos, _*ℤ_}

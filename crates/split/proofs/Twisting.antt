@@ -8,7 +8,7 @@ use native.Mathlib.Nat.{add-mul, mul-comm, mul-assoc, mul-add-div-right, mul-add
 use native.Mathlib.Omega.{arith}
 use lib.Dec.{eqb}
 use lib.IntN.{pos}
-use lib.ListN.{length, getD}
+use lib.ListN.{getD}
 use Rattle.algebra.proofs.Congruence.{Cong, cong-eq, cong-sym, cong-trans, eq-residue}
 use Rattle.split_tables.specs.Split.{PowerOfTwo, Twists, twistAt, thirdAt, rootAt}
 

@@ -1,8 +1,8 @@
 -- What stands at the places of the exponents: the evaluations, by Rader's reordering read forwards. Of the sums by the split, and of a challenge's.
 -- Assumes nothing.
-use mathlib.Core.Path.{_≡_, sym, ap, ap₂, _∙_}
+use mathlib.Core.Path.{_≡_, sym, ap, _∙_}
 use mathlib.Core.List.{List, map}
-use Prim.Native.Nat.{ℕ, _+_, _-_, _*_, _^_, _%_, _<_, _≤_}
+use Prim.Native.Nat.{ℕ, _+_, _-_, _*_, _^_, _%_, _<_}
 use native.Mathlib.Nat.{mod-mod, mod-lt}
 use native.Mathlib.Omega.{arith}
 use lib.IntN.{ℤ, pos, _+ℤ_, _*ℤ_}
@@ -13,13 +13,13 @@ use Rattle.algebra.proofs.Sum.{sum-cong}
 use Rattle.parameters.specs.declared.Params.{Params}
 use Rattle.parameters.specs.Ring.{Usable}
 use Rattle.polynomial.specs.Polynomial.{coefficient}
-use Rattle.polynomial.specs.Evaluation.{evaluationResidue, sumAt}
+use Rattle.polynomial.specs.Evaluation.{evaluationResidue}
 use Rattle.transform.specs.Asks.{Placed}
 use Rattle.transform.specs.Convolution.{entry}
 use Rattle.transform.specs.Generator.{GeneratorTable}
 use Rattle.transform.specs.Reordering.{reorderedPowers}
 use Rattle.transform.proofs.GeneratorLaws.{table-power, table-generator}
-use Rattle.transform.proofs.ReorderedSum.{sum-forwards, g-round, r-round}
+use Rattle.transform.proofs.ReorderedSum.{sum-forwards, r-round}
 use Rattle.transform.proofs.UpFrom.{map-at}
 use Rattle.split_tables.specs.Split.{SplitTables, shapeOf}
 use Rattle.split.specs.Fold.{Modulus}

@@ -1,6 +1,6 @@
 // The three stages: the sums of a list with the powers of g in the order of the generator's powers.
 ghost use mathlib.Core.Path.{_≡_};
-ghost use Prim.Native.Nat.{_*_, _≤_};
+ghost use Prim.Native.Nat.{_*_};
 ghost use lib.ListN.{length};
 ghost use Rattle.split.specs.Fold.{inverse};
 ghost use Rattle.split.specs.Levels.{UnderIn};

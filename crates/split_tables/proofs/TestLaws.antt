@@ -5,12 +5,12 @@ use mathlib.Core.Bool.{Bool, true, false, cond}
 use mathlib.Core.List.{List, [], _∷_}
 use mathlib.Core.Logic.{⊎-elim}
 use Prim.Native.Nat.{ℕ, zero, suc, _+_, _*_, _/_, _^_, _%_, _<_, _≤_, zero-le}
-use native.Mathlib.Nat.{add-zero, add-suc, suc-add, zero-mul, suc-mul, mul-zero, mul-comm, pow-zero, pow-suc, mod-mod, mod-eq-of-lt}
+use native.Mathlib.Nat.{add-zero, add-suc, suc-add, zero-mul, suc-mul, mul-zero, pow-suc, mod-mod, mod-eq-of-lt}
 use native.Mathlib.Nat.{div-eq-of-eq-mul-left, le-of-suc-le-suc, not-suc-le-zero}
 use native.Mathlib.Omega.{arith}
 use borrow.Author.Tests.{eq-eqb}
 use lib.Dec.{T, eqb, ltb, ltb→lt, eqb→eq}
-use lib.Pow.{pow-add, pow-mono, pow-pos}
+use lib.Pow.{pow-mono, pow-pos}
 use lib.IntN.{ℤ, pos, _+ℤ_, _*ℤ_}
 use lib.ListN.{length, getD, drop, length-replicate, getD-replicate}
 use lib.Seq.{getD-drop}

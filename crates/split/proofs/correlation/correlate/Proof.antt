@@ -1,10 +1,7 @@
 -- `correlate` meets its contract: the three stages, one after the other.
 -- Assumes nothing.
-use mathlib.Core.Path.{sym, _∙_}
-use Prim.Native.Nat.{_*_}
+use mathlib.Core.Path.{_∙_}
 use native.Mathlib.Omega.{arith}
-use lib.ListN.{length}
-use borrow.Author.Needs.{needs}
 use Rattle.split.proofs.correlation.correlate.Statement.{statement}
 use Rattle.split.proofs.correlation.correlate.Tie as tie
 

@@ -1,7 +1,7 @@
 -- `lift` meets its contract: a coefficient of 16 bits is smaller than q, so that its complement is its own remainder.
 -- Assumes nothing.
 use mathlib.Core.Path.{_≡_, sym, ap, _∙_}
-use Prim.Native.Nat.{suc, _-_, _%_, _<_, _≤_}
+use Prim.Native.Nat.{suc, _-_, _%_, _<_}
 use native.Mathlib.Nat.{mod-eq-of-lt}
 use native.Mathlib.Omega.{arith}
 use lib.IntN.{ℤ, natAbs}

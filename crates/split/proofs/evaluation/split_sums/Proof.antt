@@ -1,14 +1,13 @@
 -- `split_sums` meets its contract: the three tables are parts of one list.
 -- Assumes nothing.
-use mathlib.Core.Path.{_≡_, sym, ap, _∙_, subst}
+use mathlib.Core.Path.{_≡_, sym, ap, _∙_}
 use mathlib.Core.List.{List}
-use Prim.Native.Nat.{ℕ, _+_, _-_, _*_, _<_, _≤_}
+use Prim.Native.Nat.{ℕ, _+_, _-_, _<_, _≤_}
 use native.Mathlib.Omega.{arith}
 use lib.ListN.{length, take, drop}
 use borrow.Author.Needs.{needs}
 use Rattle.split_tables.specs.declared.Shape.{Shape}
 use Rattle.split_tables.specs.Split.{SplitTables, shapeOf}
-use Rattle.split.specs.Values.{Staged, Correlated, residuesInOrder}
 use Rattle.split.proofs.ChallengeLaws.{order-size, order-below}
 use Rattle.split.proofs.SetStages.{several-of, staged-of, suffix, roots-few, orders-all}
 use Rattle.split.proofs.evaluation.split_sums.Statement.{statement}

@@ -1,11 +1,10 @@
 -- `sum_reordered` meets its contract: the coefficients in order, then the stages.
 -- Assumes nothing.
-use mathlib.Core.Path.{_≡_, sym, _∙_}
+use mathlib.Core.Path.{sym, _∙_}
 use mathlib.Core.List.{List, _++_}
-use Prim.Native.Nat.{ℕ, _*_, _≤_}
+use Prim.Native.Nat.{ℕ, _≤_}
 use native.Mathlib.Omega.{arith}
-use lib.ListN.{length, take, drop, replicate}
-use borrow.Author.Needs.{needs}
+use lib.ListN.{length, drop, replicate}
 use Rattle.algebra.proofs.Front.{InFront, in-front, stored}
 use Rattle.split.specs.Values.{residuesInOrder}
 use Rattle.split.proofs.ValueLaws.{residues-length, residues-under}

@@ -1,7 +1,6 @@
 -- `lower` meets its contract.
 -- Assumes nothing.
 use mathlib.Core.Path.{refl}
-use borrow.Author.Needs.{needs}
 use borrow.Author.Tests.{lt-ltb, le-ltb}
 use Rattle.split.proofs.fold.lower.Statement.{statement}
 use Rattle.split.proofs.fold.lower.Tie as tie

@@ -1,10 +1,8 @@
 -- `cut_all` meets its contract: the first level, then the others.
 -- Assumes nothing.
 use mathlib.Core.Path.{_∙_}
-use Prim.Native.Nat.{_*_}
 use native.Mathlib.Omega.{arith}
 use lib.ListN.{length}
-use borrow.Author.Needs.{needs}
 use Rattle.split.specs.Levels.{rootOf}
 use Rattle.split.proofs.FirstLevel.{cut-none}
 use Rattle.split.proofs.LevelLoops.{under-weaker}

@@ -3,7 +3,7 @@
 use mathlib.Core.Path.{ap, ap₂, _∙_, subst}
 use Prim.Native.Nat.{ℕ, _+_, _-_, _*_, _^_, _<_, _≤_}
 use native.Mathlib.Omega.{arith}
-use lib.ListN.{length, getD, length-set}
+use lib.ListN.{getD, length-set}
 use borrow.Author.Needs.{needs}
 use Rattle.algebra.proofs.Remainder.{product-below}
 use Rattle.split.specs.Fold.{folded}

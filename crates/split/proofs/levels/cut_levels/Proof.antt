@@ -1,11 +1,7 @@
 -- `cut_levels` meets its contract: a level a turn.
 -- Assumes nothing.
-use mathlib.Core.Path.{_∙_}
-use Prim.Native.Nat.{_*_, _/_, _<_, _≤_}
 use native.Mathlib.Nat.{div-lt-self}
 use native.Mathlib.Omega.{arith}
-use lib.ListN.{length}
-use borrow.Author.Needs.{needs}
 use Rattle.split.proofs.Heights.{start-some}
 use Rattle.split.proofs.LevelLoops.{CutTo, cut-first, cut-size, cut-nodes, cut-block-size, cut-under, cut-next, cut-done}
 use Rattle.split.proofs.levels.cut_levels.Statement.{statement}

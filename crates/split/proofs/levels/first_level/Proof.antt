@@ -3,10 +3,9 @@
 use mathlib.Core.Path.{_≡_, refl, sym, subst}
 use mathlib.Core.List.{List}
 use mathlib.Core.Logic.{⊎-elim}
-use Prim.Native.Nat.{ℕ, _*_, _/_, _<_, _≤_}
+use Prim.Native.Nat.{ℕ, _*_, _/_, _<_}
 use native.Mathlib.Omega.{arith}
 use lib.ListN.{length, getD}
-use borrow.Author.Needs.{needs}
 use Rattle.split.specs.Levels.{UnderIn, Tripled, Tree, CutFurther, JoinedFurther, Threefold, rootOf}
 use Rattle.split.proofs.FirstLevel.{several-twists, thirds-size, thirds-under, first-twist, second-twist, thirds-threefold, thirds-further, thirds-back}
 use Rattle.split.proofs.FirstLevel.{none-threefold, none-further, none-back}

@@ -1,10 +1,8 @@
 -- `join_all` meets its contract: the last levels, then the first.
 -- Assumes nothing.
 use mathlib.Core.Path.{_∙_}
-use Prim.Native.Nat.{_*_}
 use native.Mathlib.Omega.{arith}
 use lib.ListN.{length}
-use borrow.Author.Needs.{needs}
 use Rattle.split.specs.Levels.{rootOf}
 use Rattle.split.proofs.FirstLevel.{join-none}
 use Rattle.split.proofs.levels.join_all.Statement.{statement}

@@ -1,9 +1,9 @@
 -- `join_block` meets its contract: each turn reads a pair that no turn before has written.
 -- Assumes nothing.
-use mathlib.Core.Path.{_≡_, refl, ap, ap₂, _∙_, subst}
-use Prim.Native.Nat.{ℕ, _+_, _-_, _*_, _^_, _<_, _≤_}
+use mathlib.Core.Path.{refl, ap, ap₂, _∙_, subst}
+use Prim.Native.Nat.{_+_, _-_, _*_, _^_, _<_, _≤_}
 use native.Mathlib.Omega.{arith}
-use lib.ListN.{length, getD, length-set}
+use lib.ListN.{getD, length-set}
 use borrow.Author.Needs.{needs}
 use Rattle.algebra.proofs.Remainder.{product-below}
 use Rattle.split.specs.Fold.{folded}

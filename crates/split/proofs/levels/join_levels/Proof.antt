@@ -1,11 +1,7 @@
 -- `join_levels` meets its contract: a level a turn.
 -- Assumes nothing.
-use mathlib.Core.Path.{_∙_}
-use Prim.Native.Nat.{_*_, _/_, _<_, _≤_}
 use native.Mathlib.Nat.{div-lt-self}
 use native.Mathlib.Omega.{arith}
-use lib.ListN.{length}
-use borrow.Author.Needs.{needs}
 use Rattle.split.proofs.Heights.{leaves-few}
 use Rattle.split.proofs.LevelLoops.{JoinTo, join-first, join-size, join-nodes, join-block-size, join-under, join-next, join-done}
 use Rattle.split.proofs.levels.join_levels.Statement.{statement}

@@ -1,9 +1,9 @@
 -- `take_thirds` meets its contract: each turn reads a triple that no turn before has written.
 -- Assumes nothing.
-use mathlib.Core.Path.{_≡_, refl, ap, subst}
-use Prim.Native.Nat.{ℕ, _+_, _-_, _*_, _<_, _≤_}
+use mathlib.Core.Path.{refl, subst}
+use Prim.Native.Nat.{_+_, _-_, _*_, _<_, _≤_}
 use native.Mathlib.Omega.{arith}
-use lib.ListN.{length, getD, length-set}
+use lib.ListN.{getD, length-set}
 use borrow.Author.Needs.{needs}
 use Rattle.split.specs.Levels.{Tripled}
 use Rattle.split.proofs.LevelLaws.{tripled-none, tripled-more, triple-under}

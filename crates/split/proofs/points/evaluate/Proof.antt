@@ -1,8 +1,7 @@
 -- `evaluate` meets its contract, by either evaluator.
 -- Assumes nothing.
-use mathlib.Core.Path.{ap, _∙_}
+use mathlib.Core.Path.{_∙_}
 use native.Mathlib.Omega.{arith}
-use lib.ListN.{length}
 use borrow.Author.Needs.{needs}
 use Rattle.encoding.proofs.Evaluating.{exponents-below}
 use Rattle.split.proofs.ReadingLaws.{exponents-of, read-signed, values-under}

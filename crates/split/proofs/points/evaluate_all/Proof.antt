@@ -2,7 +2,6 @@
 -- Assumes nothing.
 use mathlib.Core.Path.{sym, _∙_}
 use native.Mathlib.Omega.{arith}
-use lib.ListN.{length}
 use borrow.Author.Needs.{needs}
 use Rattle.split.proofs.LevelLoops.{under-shorter}
 use Rattle.split.proofs.ReadingLaws.{read-all, values-under}

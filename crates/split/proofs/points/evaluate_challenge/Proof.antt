@@ -2,12 +2,11 @@
 -- Assumes nothing.
 use mathlib.Core.Path.{_≡_, sym, ap, _∙_}
 use mathlib.Core.List.{List}
-use Prim.Native.Nat.{ℕ, _≤_}
+use Prim.Native.Nat.{ℕ}
 use native.Mathlib.Omega.{arith}
 use lib.IntN.{ℤ}
 use lib.ListN.{length, take}
 use borrow.Author.Needs.{needs}
-use Rattle.algebra.proofs.Front.{in-front}
 use Rattle.polynomial.specs.Evaluation.{evaluationResidues}
 use Rattle.encoding.proofs.Evaluating.{exponents-below}
 use Rattle.split.proofs.ReadingLaws.{exponents-of, exponents-within, read-residues}

@@ -2,7 +2,6 @@
 -- Assumes nothing.
 use mathlib.Core.Path.{_∙_}
 use native.Mathlib.Omega.{arith}
-use lib.ListN.{length}
 use borrow.Author.Needs.{needs}
 use Rattle.encoding.proofs.Evaluating.{exponents-below}
 use Rattle.split.proofs.ReadingLaws.{exponents-of, exponents-within, read-residues}
