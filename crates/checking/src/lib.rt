@@ -33,7 +33,6 @@ use parameters::MAX_N;
 use parameters::MAX_T;
 use parameters::Params;
 use parameters::params_of;
-use parameters::ring_of;
 use polynomial::product::in_range16;
 use refusal::Verdict;
 use refusal::WRONG_ENTRIES;
@@ -45,7 +44,8 @@ use refusal::set_refusal;
 use refusal::unless;
 use split::points::evaluate_challenge;
 use split::points::evaluate_residues;
-use split_tables::split_table;
+use split_tables::SPLIT_ROOM;
+use split_tables::look_up;
 
 // z - v × c modulo q, for evaluations below q: with q × q added no difference is negative, so that one remainder is enough.
 fn difference(z: u32, v: u32, c: u32, q: u32) -> u32
@@ -269,10 +269,9 @@ pub fn check(public_key: &[u8], message: &[u8], signature: &[u8]) -> Verdict
     if refusal != 0 {
         return Verdict::Refused(refusal);
     }
-    let ring = ring_of(public_key[0]);
-    let p = ring.params;
-    let powers = ring.powers;
-    let table = split_table(public_key[0]);
+    let mut powers = [0u32; MAX_N];
+    let mut table = [0u32; SPLIT_ROOM];
+    let p = look_up(public_key[0], &mut powers, &mut table);
     let size = 3 * (p.n - 1);
     let t = p.t;
     let key = decode_public_key(p, &public_key[1..]);

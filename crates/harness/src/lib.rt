@@ -52,8 +52,8 @@ pub extern "C" fn harness_evaluate(
     requires { ⌜ length (now out) ≡ length (now exponents) ⌝ }
     ensures { λ _. ⌜ now (out .exit) ≡ evaluations (setOf set) (now (coefficients .entry)) (now (exponents .entry)) ⌝ }
 {
-    let ring = parameters::ring_of(set);
-    let p = ring.params;
-    let powers = ring.powers;
+    let p = parameters::params_of(set);
+    let mut powers = [0u32; parameters::MAX_N];
+    parameters::put_powers(set, p.n, &mut powers);
     polynomial::evaluation::evaluate(p, &powers, coefficients, exponents, out);
 }

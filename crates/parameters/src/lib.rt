@@ -1,12 +1,11 @@
 // The five parameter sets of document 01, the powers of each set's g, and the limits that arrays have room for.
 ghost use mathlib.Core.Path.{_≡_};
 ghost use mathlib.Core.Bool.{true};
-ghost use Prim.Native.Nat.{_<_, _≤_};
-ghost use lib.ListN.{length, take};
-ghost use Rattle.parameters.specs.Limits.{maxN};
+ghost use Prim.Native.Nat.{_+_, _≤_};
+ghost use lib.ListN.{length};
+ghost use lib.Seq.{paste};
 ghost use Rattle.parameters.specs.Sets.{isSet, setOf};
-ghost use Rattle.parameters.specs.Asks.{PowersOf};
-ghost use Rattle.parameters.specs.Ring.{RingOf};
+ghost use Rattle.parameters.specs.Ring.{Usable};
 
 mod powers;
 
@@ -79,13 +78,6 @@ const SETS: [Params; 5] = [
     },
 ];
 
-// What an entry looks up once: the set byte, its numbers, and the powers of its g, N of them in front.
-pub struct Ring {
-    pub set: u8,
-    pub params: Params,
-    pub powers: [u32; MAX_N],
-}
-
 // Whether a byte is a set.
 pub fn is_set(set: u8) -> bool
     ensures { λ r. ⌜ r ≡ isSet set ⌝ }
@@ -112,44 +104,45 @@ pub fn params_of(set: u8) -> Params
     }
 }
 
-// A table at the front of an array that has room for the largest.
-pub fn at_front(table: &[u32]) -> [u32; MAX_N]
-    requires { ⌜ length (now table) ≤ maxN ⌝ }
-    ensures { λ r. ⌜ take (length (now (table .entry))) r ≡ now (table .entry) ⌝ }
+// The first n numbers of a list, copied to a place of a slice.
+pub fn put(out: &mut [u32], at: usize, list: &[u32], n: usize)
+    requires { ⌜ (n ≤ length (now list)) × (at + n ≤ length (now out)) ⌝ }
+    ensures size { λ _. ⌜ length (now (out .exit)) ≡ length (now (out .entry)) ⌝ }
+    ensures copied { λ _. ⌜ now (out .exit) ≡ paste (now (out .entry)) at (now (list .entry)) n ⌝ }
 {
-    let mut out = [0u32; MAX_N];
     let mut i = 0;
-    while i < table.len() {
-        out[i] = table[i];
+    while i < n {
+        out[at + i] = list[i];
         i += 1;
     }
-    out
 }
 
-// The powers of a set's g, in front.
-fn powers_of(set: u8) -> [u32; MAX_N]
-    requires { ⌜ set < 5 ⌝ }
-    ensures { λ r. ⌜ PowersOf (setOf set) (take (setOf set .n) r) ⌝ }
+// Puts the powers of a set's g at the front of a slice. A constant is built where it is named, so each arm names its own; n is its length, and
+// the compiler, which is not told, copies memory and not number by number.
+pub fn put_powers(set: u8, n: usize, out: &mut [u32])
+    requires { ⌜ (isSet set ≡ true) × (n ≡ setOf set .n) × (n ≤ length (now out)) ⌝ }
+    ensures { λ _. ⌜ Usable (setOf set) (now (out .exit)) ⌝ }
 {
     match set {
-        0 => at_front(&powers::POWERS_0),
-        1 => at_front(&powers::POWERS_1),
-        2 => at_front(&powers::POWERS_2),
-        3 => at_front(&powers::POWERS_3),
-        _ => at_front(&powers::POWERS_4),
-    }
-}
-
-// A set looked up.
-pub fn ring_of(set: u8) -> Ring
-    requires { ⌜ isSet set ≡ true ⌝ }
-    ensures { λ r. ⌜ RingOf set r ⌝ }
-{
-    let params = params_of(set);
-    let powers = powers_of(set);
-    Ring {
-        set: set,
-        params: params,
-        powers: powers,
+        0 => {
+            let table = powers::POWERS_0;
+            put(out, 0, &table, n);
+        }
+        1 => {
+            let table = powers::POWERS_1;
+            put(out, 0, &table, n);
+        }
+        2 => {
+            let table = powers::POWERS_2;
+            put(out, 0, &table, n);
+        }
+        3 => {
+            let table = powers::POWERS_3;
+            put(out, 0, &table, n);
+        }
+        _ => {
+            let table = powers::POWERS_4;
+            put(out, 0, &table, n);
+        }
     }
 }

@@ -5,15 +5,11 @@ use mathlib.Core.List.{List}
 use Prim.Native.Nat.{ℕ, _-_, _*_, _≤_, _<_}
 use native.Mathlib.Omega.{arith}
 use borrow.Author.Tests.{ltb-true}
-use lib.ListN.{take}
 use Rattle.parameters.specs.declared.Params.{Params}
-use Rattle.parameters.specs.declared.Ring.{Ring}
 use Rattle.parameters.specs.Limits.{maxT}
-use Rattle.parameters.specs.Ring.{Usable, RingOf}
-use Rattle.parameters.specs.Sets.{setOf}
 use Rattle.parameters.specs.Sound.{Sound, Fitting}
 use Rattle.parameters.proofs.Lookup.{lookup-sound, lookup-fitting}
-use Rattle.split_tables.specs.Split.{SplitTable}
+use Rattle.split_tables.specs.LookedUp.{LookedUp}
 use Rattle.session_commands.specs.Asks.{InSet}
 
 module _ {p : Params} {set : ℕ} (force : InSet p set) where
@@ -29,12 +25,9 @@ module _ {p : Params} {set : ℕ} (force : InSet p set) where
   pub points-room : p .t ≤ maxT
   points-room = omega (arith, fitting .size, fitting .exponents)
 
-  pub usable : {r : Ring} → RingOf set r → Usable p (r .powers)
-  usable {r} ring = subst (λ (x : Params). Usable x (r .powers)) (ring .params ∙ sym (force .is)) (ring .usable)
-
-  -- the table of the set, lent in front of its array
-  pub table-lent : (table : List ℕ) → SplitTable (setOf set) (take (3 * (setOf set .n - 1)) table) → SplitTable p (take (3 * (p .n - 1)) table)
-  table-lent table h = rw (force .is) h
+  -- what was looked up of the set is of the numbers in force
+  pub in-force : {found : Params} {powers split : List ℕ} → LookedUp set found powers split → LookedUp set p powers split
+  in-force {powers = powers} {split = split} l = subst (λ (x : Params). LookedUp set x powers split) (l .params ∙ sym (force .is)) l
 
   pub table-room : 3 * (p .n - 1) ≤ 3456
   table-room = omega (arith, fitting .size)

@@ -10,13 +10,14 @@ ghost use Rattle.session_commands.specs.Asks.{InSet};
 ghost use Rattle.session_commands.specs.ByRules.{ByCheck};
 use crate::plain;
 use checking::check_in;
+use parameters::MAX_N;
 use parameters::Params;
-use parameters::ring_of;
 use refusal::Verdict;
 use session_state::Added;
 use session_state::CommandResult;
 use session_state::Flags;
-use split_tables::split_table;
+use split_tables::SPLIT_ROOM;
+use split_tables::look_up;
 
 // A verdict: 1 or 0.
 fn judged(flags: Flags, verdict: u8) -> CommandResult
@@ -45,9 +46,9 @@ pub fn check_held(
     ensures set { λ r. ⌜ r .flags .set ≡ flags .set ⌝ }
 {
     let t = p.t;
-    let ring = ring_of(flags.set);
-    let powers = ring.powers;
-    let table = split_table(flags.set);
+    let mut powers = [0u32; MAX_N];
+    let mut table = [0u32; SPLIT_ROOM];
+    look_up(flags.set, &mut powers, &mut table);
     let size = 3 * (p.n - 1);
     let verdict = check_in(
         p,

@@ -23,10 +23,10 @@ use encoding::numbers::read_numbers24;
 use encoding::numbers::read_signed16;
 use encoding::secret_key::are_key_bytes;
 use parameters::MAX_MASKS;
+use parameters::MAX_N;
 use parameters::MAX_T;
 use parameters::Params;
 use parameters::is_set;
-use parameters::ring_of;
 use polynomial::product::in_range16;
 use refusal::TOO_MANY_MASKS;
 use refusal::WRONG_EVALUATION;
@@ -37,7 +37,8 @@ use refusal::WRONG_SET;
 use session_state::Added;
 use session_state::CommandResult;
 use session_state::Flags;
-use split_tables::split_table;
+use split_tables::SPLIT_ROOM;
+use split_tables::look_up;
 use values::keys::key_evaluations;
 
 // Stores zeros.
@@ -161,9 +162,9 @@ pub fn load_key(
     let n = p.n;
     let t = p.t;
     let q = p.q;
-    let ring = ring_of(flags.set);
-    let powers = ring.powers;
-    let table = split_table(flags.set);
+    let mut powers = [0u32; MAX_N];
+    let mut table = [0u32; SPLIT_ROOM];
+    look_up(flags.set, &mut powers, &mut table);
     let size = 3 * (p.n - 1);
     key_evaluations(
         p,

@@ -31,7 +31,6 @@ use parameters::MAX_MESSAGE;
 use parameters::MAX_N;
 use parameters::MAX_T;
 use parameters::Params;
-use parameters::ring_of;
 use polynomial::product::in_range;
 use polynomial::product::in_range16;
 use polynomial::product::z_of;
@@ -44,7 +43,8 @@ use refusal::WRONG_MASK;
 use refusal::set_refusal;
 use refusal::unless;
 use split::points::evaluate_residues;
-use split_tables::split_table;
+use split_tables::SPLIT_ROOM;
+use split_tables::look_up;
 
 // Writes a signature's bytes: the set, the challenge's b entries, the N coefficients of z.
 fn encode_signature(p: Params, set: u8, c: &[i8], z: &[i32], out: &mut [u8])
@@ -237,10 +237,9 @@ pub fn sign_in_set(
     ensures written { λ _. ⌜ now (out .exit) ≡ signWrittenIn drawChallenge (setOf set) (set ∷ now (key .entry)) (now (exponents .entry))
         (now (masks .entry)) (now (message .entry)) (now (out .entry)) ⌝ }
 {
-    let ring = ring_of(set);
-    let p = ring.params;
-    let powers = ring.powers;
-    let table = split_table(set);
+    let mut powers = [0u32; MAX_N];
+    let mut table = [0u32; SPLIT_ROOM];
+    let p = look_up(set, &mut powers, &mut table);
     let size = 3 * (p.n - 1);
     sign_in(
         p,

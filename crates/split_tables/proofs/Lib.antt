@@ -1,4 +1,2 @@
 pub mod TestLaws
-pub mod Joining
 pub mod SetTables
-pub mod LentTable

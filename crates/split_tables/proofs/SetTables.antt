@@ -1,12 +1,12 @@
 -- The tables of a set are a split's: one arm of the match on a set.
 -- Assumes nothing.
-use mathlib.Core.Path.{_≡_, sym, ap, subst, _∙_}
+use mathlib.Core.Path.{_≡_, sym, ap, ap₂, subst, _∙_}
 use mathlib.Core.List.{List, _++_}
 use Prim.Native.Nat.{ℕ, _+_, _-_, _*_, _<_, _≤_}
 use native.Mathlib.Omega.{arith}
 use lib.Dec.{T, ltb, ltb→lt, leb→le, eqb→eq}
 use lib.ListN.{length, take, drop, length-append}
-use lib.Seq.{take-at, drop-at, drop-drop}
+use lib.Seq.{take-at, drop-at, drop-drop, paste, take-paste, take-length}
 use Rattle.parameters.specs.declared.Params.{Params}
 use Rattle.parameters.specs.Sets.{setOf}
 use Rattle.parameters.specs.Sound.{Sound, Fitting}
@@ -49,40 +49,45 @@ module _ (p : Params) (base : ℕ) (order table : List ℕ) where
         parts = λ h. rw (front, behind, sym (drop-drop k (p .n - 1) t), behind) (tables h);
       }
 
--- ---- the arms of the match on a set: s is the number j of the arm, r what was joined
-module _ (order table r : List ℕ) where
-  -- what an arm asks
-  abbrev Joined : ℕ → Type 0
-  Joined s = take (setOf s .n - 1 + length table) r ≡ take (setOf s .n - 1) order ++ table
+-- ---- the arms of the match on a set: s is the number j of the arm, `last` its N - 1, r what was put behind the generator's powers
+module _ (j : ℕ) {s last : ℕ} (is : s ≡ j) (count : last ≡ setOf s .n - 1) where
+  pub arm-size : last ≡ setOf j .n - 1
+  arm-size = count ∙ ap (λ (x : ℕ). setOf x .n - 1) is
 
-  abbrev Ordered : ℕ → Type 0
-  Ordered s = GeneratorTable (generatorOf s) (setOf s .n) (take (setOf s .n - 1) order)
+  abbrev Ordered : List ℕ → ℕ → Type 0
+  Ordered first x = GeneratorTable (generatorOf x) (setOf x .n) (take (setOf x .n - 1) first)
 
-  abbrev Answer : ℕ → Type 0
-  Answer s = SplitTable (setOf s) (take (3 * (setOf s .n - 1)) r)
+  module _ (first table : List ℕ) {r : List ℕ} (ordered : Ordered first s) (room : 3 * last ≤ length first) (e : r ≡ paste first last table (2 * last)) where
+    abbrev Answer : ℕ → Type 0
+    Answer x = SplitTable (setOf x) (take (3 * (setOf x .n - 1)) r)
 
-  in-front-is : (s : ℕ) → length table ≡ 2 * (setOf s .n - 1) → Joined s → take (3 * (setOf s .n - 1)) r ≡ take (setOf s .n - 1) order ++ table
-  in-front-is s size e =
-      let count : 3 * (setOf s .n - 1) ≡ setOf s .n - 1 + length table = omega arith in
-      ap (λ (m : ℕ). take m r) count ∙ e
+    -- the generator's powers, and the table behind them
+    front : length table ≡ 2 * (setOf j .n - 1) → take (3 * (setOf j .n - 1)) r ≡ take (setOf j .n - 1) first ++ table
+    front size =
+        let count : 3 * (setOf j .n - 1) ≡ last + 2 * last = omega (arith, arm-size) in
+        let whole : 2 * last ≡ length table = omega (arith, arm-size) in
+        ap₂ (λ (m : ℕ) (l : List ℕ). take m l) count e
+        ∙ take-paste first last table (2 * last) (omega arith) (omega arith)
+        ∙ ap₂ (λ (m k : ℕ). take m first ++ take k table) arm-size whole
+        ∙ ap (λ (l : List ℕ). take (setOf j .n - 1) first ++ l) (take-length table)
 
-  -- a set with a split
-  pub arm : (j : ℕ) {s : ℕ} → s < 5 → s ≡ j → Ordered s → T (isSplit (setOf j) (generatorOf j) table) → Joined j → Answer s
-  unfolding splitTests
-  arm j {s} known is ordered t joined =
-      let p = setOf j in
-      let size = eqb→eq (length table) (2 * (p .n - 1)) (each (splitTests p (generatorOf j) table) t 2 tt) in
-      let g : Ordered j = subst Ordered is ordered in
-      let below : j < 5 = subst (λ (x : ℕ). x < 5) is known in
-      subst Answer (sym is)
-      (joined-tables p (generatorOf j) (take (p .n - 1) order) table g size (in-front-is j size joined)
-      (λ h. tables-of-test p (generatorOf j) (take (p .n - 1) order) table (set-sound j below) (set-fitting j below) g t))
+    -- a set with a split
+    pub arm : s < 5 → T (isSplit (setOf j) (generatorOf j) table) → Answer s
+    unfolding splitTests
+    arm known t =
+        let p = setOf j in
+        let order = take (p .n - 1) first in
+        let size = eqb→eq (length table) (2 * (p .n - 1)) (each (splitTests p (generatorOf j) table) t 2 tt) in
+        let g = subst (Ordered first) is ordered in
+        let below : j < 5 = subst (λ (x : ℕ). x < 5) is known in
+        subst Answer (sym is)
+        (joined-tables p (generatorOf j) order table g size (front size)
+        (λ h. tables-of-test p (generatorOf j) order table (set-sound j below) (set-fitting j below) g t))
 
-  -- a set without one
-  pub arm-without : (j : ℕ) {s : ℕ} → s ≡ j → Ordered s → T (ltb (setOf j .q) splitFrom) → length table ≡ 2 * (setOf j .n - 1) → Joined j → Answer s
-  arm-without j {s} is ordered t size joined =
-      let p = setOf j in
-      let g : Ordered j = subst Ordered is ordered in
-      let small = ltb→lt (p .q) splitFrom t in
-      subst Answer (sym is)
-      (joined-tables p (generatorOf j) (take (p .n - 1) order) table g size (in-front-is j size joined) (λ h. absurd (omega arith)))
+    -- a set without one
+    pub arm-without : T (ltb (setOf j .q) splitFrom) → length table ≡ 2 * (setOf j .n - 1) → Answer s
+    arm-without t size =
+        let p = setOf j in
+        let small = ltb→lt (p .q) splitFrom t in
+        subst Answer (sym is)
+        (joined-tables p (generatorOf j) (take (p .n - 1) first) table (subst (Ordered first) is ordered) size (front size) (λ h. absurd (omega arith)))

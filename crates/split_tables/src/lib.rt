@@ -1,12 +1,17 @@
 // The tables of fast evaluation, for each parameter set.
 ghost use mathlib.Core.Path.{_≡_};
-ghost use mathlib.Core.List.{_++_};
-ghost use Prim.Native.Nat.{_+_, _-_, _*_, _<_, _≤_};
+ghost use mathlib.Core.Bool.{true};
+ghost use Prim.Native.Nat.{_-_, _*_, _<_, _≤_};
 ghost use lib.ListN.{length, take};
-ghost use lib.Seq.{paste};
-ghost use Rattle.parameters.specs.Sets.{setOf};
+ghost use Rattle.parameters.specs.Sets.{isSet, setOf};
 ghost use Rattle.split_tables.specs.Split.{shapeOf, SplitTable};
-use transform::generator::generator_powers;
+ghost use Rattle.split_tables.specs.LookedUp.{LookedUp};
+use parameters::MAX_N;
+use parameters::Params;
+use parameters::params_of;
+use parameters::put;
+use parameters::put_powers;
+use transform::generator::put_generator_powers;
 
 mod tables;
 
@@ -48,41 +53,45 @@ pub fn shape_of(n: usize) -> Shape
     }
 }
 
-// A list, copied to a place of an array.
-fn put(out: &mut [u32], at: usize, list: &[u32])
-    requires { ⌜ at + length (now list) ≤ length (now out) ⌝ }
-    ensures size { λ _. ⌜ length (now (out .exit)) ≡ length (now (out .entry)) ⌝ }
-    ensures copied { λ _. ⌜ now (out .exit) ≡ paste (now (out .entry)) at (now (list .entry)) (length (now (list .entry))) ⌝ }
+// Puts the tables of a set's split at the front of a slice, as `put_powers` of `parameters` does: the powers of the least generator, the twists,
+// the rows; `last` is N - 1.
+fn put_split(set: u8, last: usize, out: &mut [u32])
+    requires { ⌜ (set < 5) × (last ≡ setOf set .n - 1) × (3 * last ≤ length (now out)) ⌝ }
+    ensures { λ _. ⌜ SplitTable (setOf set) (take (3 * (setOf set .n - 1)) (now (out .exit))) ⌝ }
 {
-    let mut i = 0;
-    while i < list.len() {
-        out[at + i] = list[i];
-        i += 1;
-    }
-}
-
-// The first n numbers of a list and a table behind them, in front.
-fn joined(order: &[u32], n: usize, table: &[u32]) -> [u32; SPLIT_ROOM]
-    requires { ⌜ (n ≤ length (now order)) × (n + length (now table) ≤ 3456) ⌝ }
-    ensures { λ r. ⌜ take (n + length (now (table .entry))) r ≡ take n (now (order .entry)) ++ now (table .entry) ⌝ }
-{
-    let mut out = [0u32; SPLIT_ROOM];
-    put(&mut out, 0, &order[..n]);
-    put(&mut out, n, table);
-    out
-}
-
-// The tables of a set's split, in front: the powers of the least generator, the twists, the rows.
-pub fn split_table(set: u8) -> [u32; SPLIT_ROOM]
-    requires { ⌜ set < 5 ⌝ }
-    ensures { λ r. ⌜ SplitTable (setOf set) (take (3 * (setOf set .n - 1)) r) ⌝ }
-{
-    let order = generator_powers(set);
+    put_generator_powers(set, last, out);
+    let rest = 2 * last;
     match set {
-        0 => joined(&order, 4, &tables::SPLIT_0),
-        1 => joined(&order, 432, &tables::SPLIT_1),
-        2 => joined(&order, 576, &tables::SPLIT_2),
-        3 => joined(&order, 768, &tables::SPLIT_3),
-        _ => joined(&order, 1152, &tables::SPLIT_4),
+        0 => {
+            let table = tables::SPLIT_0;
+            put(out, last, &table, rest);
+        }
+        1 => {
+            let table = tables::SPLIT_1;
+            put(out, last, &table, rest);
+        }
+        2 => {
+            let table = tables::SPLIT_2;
+            put(out, last, &table, rest);
+        }
+        3 => {
+            let table = tables::SPLIT_3;
+            put(out, last, &table, rest);
+        }
+        _ => {
+            let table = tables::SPLIT_4;
+            put(out, last, &table, rest);
+        }
     }
+}
+
+// What an entry looks up once: a set's numbers, the powers of its g and the tables of its split, at the front of two arrays.
+pub fn look_up(set: u8, powers: &mut [u32; MAX_N], split: &mut [u32; SPLIT_ROOM]) -> Params
+    requires { ⌜ isSet set ≡ true ⌝ }
+    ensures { λ r. ⌜ LookedUp set r (now (powers .exit)) (now (split .exit)) ⌝ }
+{
+    let p = params_of(set);
+    put_powers(set, p.n, powers);
+    put_split(set, p.n - 1, split);
+    p
 }

@@ -6,15 +6,16 @@ ghost use Rattle.refusal.specs.Answer.{answerOf, stated, answerStates};
 ghost use Rattle.values.specs.Evaluate.{evaluateRefusalIn, evaluateRefusal, evaluateWritten};
 ghost use Rattle.values.specs.EvaluateAll.{evaluateAllLengths, evaluateAllRefusal, evaluateAllWritten};
 use encoding::numbers::are_exponents;
+use parameters::MAX_N;
 use parameters::Params;
 use parameters::is_set;
-use parameters::ring_of;
 use refusal::Answer;
 use refusal::WRONG_EXPONENTS;
 use refusal::WRONG_LENGTH;
 use refusal::WRONG_SET;
 use refusal::unless;
-use split_tables::split_table;
+use split_tables::SPLIT_ROOM;
+use split_tables::look_up;
 
 // The refusal for lengths and exponents, or 0.
 fn evaluate_refusal(p: Params, size: usize, exponents: &[u16], room: usize) -> u32
@@ -35,14 +36,13 @@ pub fn evaluate(set: u8, coefficients: &[i16], exponents: &[u16], out: &mut [i32
     if !is_set(set) {
         return Answer::Refused(WRONG_SET);
     }
-    let ring = ring_of(set);
-    let p = ring.params;
+    let mut powers = [0u32; MAX_N];
+    let mut table = [0u32; SPLIT_ROOM];
+    let p = look_up(set, &mut powers, &mut table);
     let refusal = evaluate_refusal(p, coefficients.len(), exponents, out.len());
     if refusal != 0 {
         return Answer::Refused(refusal);
     }
-    let powers = ring.powers;
-    let table = split_table(set);
     let size = 3 * (p.n - 1);
     split::points::evaluate(p, &powers, &table[..size], coefficients, exponents, out);
     Answer::Done
@@ -65,13 +65,12 @@ pub fn evaluate_all(set: u8, coefficients: &[i16], out: &mut [i32]) -> Answer
     if !is_set(set) {
         return Answer::Refused(WRONG_SET);
     }
-    let ring = ring_of(set);
-    let p = ring.params;
+    let mut powers = [0u32; MAX_N];
+    let mut table = [0u32; SPLIT_ROOM];
+    let p = look_up(set, &mut powers, &mut table);
     if !has_all_lengths(p, coefficients.len(), out.len()) {
         return Answer::Refused(WRONG_LENGTH);
     }
-    let powers = ring.powers;
-    let table = split_table(set);
     let size = 3 * (p.n - 1);
     split::points::evaluate_all(p, &powers, &table[..size], coefficients, out);
     Answer::Done

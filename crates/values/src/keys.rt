@@ -19,7 +19,6 @@ use encoding::secret_key::secret_key_size;
 use parameters::MAX_N;
 use parameters::MAX_T;
 use parameters::Params;
-use parameters::ring_of;
 use refusal::Answer;
 use refusal::WRONG_EXPONENTS;
 use refusal::WRONG_KEY;
@@ -27,7 +26,8 @@ use refusal::WRONG_LENGTH;
 use refusal::set_refusal;
 use refusal::unless;
 use split::points::evaluate_residues;
-use split_tables::split_table;
+use split_tables::SPLIT_ROOM;
+use split_tables::look_up;
 
 // Whether the lengths are those of the set.
 fn has_key_lengths(p: Params, key: usize, exponents: usize, room: usize) -> bool
@@ -103,10 +103,9 @@ pub fn public_key(secret_key: &[u8], exponents: &[u16], out: &mut [u8]) -> Answe
         return Answer::Refused(refusal);
     }
     let set = secret_key[0];
-    let ring = ring_of(set);
-    let p = ring.params;
-    let powers = ring.powers;
-    let table = split_table(set);
+    let mut powers = [0u32; MAX_N];
+    let mut table = [0u32; SPLIT_ROOM];
+    let p = look_up(set, &mut powers, &mut table);
     let size = 3 * (p.n - 1);
     public_key_in(
         p,

@@ -1,15 +1,14 @@
 -- `check` meets its contract: what the guard refuses, then the check on the public key decoded once.
 -- Assumes nothing.
-use mathlib.Core.Path.{_≡_, sym, _∙_}
+use mathlib.Core.Path.{_≡_, sym, subst, _∙_}
 use Prim.Native.Nat.{_+_, _-_, _*_, _≤_}
 use native.Mathlib.Omega.{arith}
-use lib.ListN.{length, take}
+use lib.ListN.{length}
 use borrow.Author.Needs.{needs}
-use borrow.Author.Tests.{ltb-true, ne-eqb}
+use borrow.Author.Tests.{ne-eqb}
 use Rattle.algebra.proofs.Front.{in-front}
 use Rattle.parameters.specs.declared.Params.{Params}
 use Rattle.parameters.specs.Sound.{Fitting, Limited}
-use Rattle.split_tables.specs.Split.{SplitTable}
 use Rattle.encoding.specs.Encoding.{publicKeySize, signatureSize}
 use Rattle.encoding.proofs.Parts.{rest-size}
 use Rattle.refusal.proofs.SetRefusal.{some-bytes}
@@ -26,35 +25,27 @@ module _ (c : tie.Else1) where
   passed : Guarded (start .args .public-key .now) (start .args .message .now) (start .args .signature .now)
   passed = guarded _ _ _ (sym (c .before .guard-refusal .ensures) ∙ c .if1 .left)
 
--- the sizes, in the set that was looked up
-sizes : (c : tie.After-ring-of) →
-    let s = start (c .before .before) .args in
-    (length (s .public-key .now) ≡ publicKeySize (c .ring-of .result .params)) × (length (s .signature .now) ≡ signatureSize (c .ring-of .result .params))
-sizes c = rw (c .ring-of .ensures .params) (guarded-sizes _ _ _ (passed (c .before .before)))
-
--- the tables are those of that set
-module _ (c : tie.After-split-table) where
-  abbrev ring : tie.After-ring-of
-  ring = c .before .before .before .before
-
+-- the set that was looked up, and the sizes in it
+module _ (c : tie.After-look-up) where
   abbrev p : Params
-  p = ring .ring-of .result .params
+  p = c .look-up .result
+
+  abbrev tests : tie.Else1
+  tests = c .before .before .before .before
 
   fitting : Fitting p
-  fitting = ring .ring-of .ensures .usable .fitting
+  fitting = c .look-up .ensures .usable .fitting
 
-  tables : SplitTable p (take (3 * (p .n - 1)) (c .split-table .result))
-  tables = rw (ring .ring-of .ensures .params) (c .split-table .ensures)
+  sizes : (length (start tests .args .public-key .now) ≡ publicKeySize p) × (length (start tests .args .signature .now) ≡ signatureSize p)
+  sizes =
+      let s = start tests .args in
+      subst (λ (x : Params). (length (s .public-key .now) ≡ publicKeySize x) × (length (s .signature .now) ≡ signatureSize x))
+      (sym (c .look-up .ensures .params)) (guarded-sizes _ _ _ (passed tests))
 
 -- the lists stand in front of their arrays
 module _ (c : tie.After-decode-public-key) where
-  abbrev looked : tie.After-split-table
+  abbrev looked : tie.After-look-up
   looked = c .before .before .before
-
-  table-room : 3 * (p looked .n - 1) ≤ length (looked .split-table .result)
-  table-room =
-      let size : length (looked .split-table .result) ≡ 3456 = search needs in
-      omega (arith, fitting looked .size)
 
   exponents-room : p looked .t ≤ length (c .decode-public-key .result .exponents)
   exponents-room =
@@ -77,13 +68,9 @@ returns c =
 decode-public-key-requires : tie.Need-decode-public-key-requires
 decode-public-key-requires c κs =
     let l = c .before .before in
-    let r = ring l in
     let f = fitting l in
     let limited : Limited (p l) = record { size = f .size; weight = f .weight; count = omega (arith, f .size, f .exponents) } in
-    (limited, rest-size (start (r .before .before) .args .public-key .now) 1 (2 * p l .t + 3 * p l .t) (omega (arith, sizes r .0)))
-
-table-count : tie.Need-slice-aggregate-check-in
-table-count c = let d = c .before .before .before .before in in-front _ (looked d .split-table .result) (table-room d) .count
+    (limited, rest-size (start (tests l) .args .public-key .now) 1 (2 * p l .t + 3 * p l .t) (omega (arith, sizes l .0)))
 
 exponents-count : tie.Need-slice-aggregate-check-in-2
 exponents-count c = let d = c .before .before .before .before .before in in-front _ (d .decode-public-key .result .exponents) (exponents-room d) .count
@@ -94,30 +81,28 @@ evaluations-count c =
     in-front _ (d .decode-public-key .result .evaluations) (evaluations-room d) .count
 
 signature-some : tie.Need-sub-check-in
-signature-some c = omega (arith, sizes (ring (looked (c .before .before .before .before .before .before))) .1)
+signature-some c = omega (arith, sizes (looked (c .before .before .before .before .before .before)) .1)
 
 check-in-requires : tie.Need-check-in-requires
 check-in-requires c κs =
     let l = looked (c .before .before .before .before .before .before .before) in
-    let r = ring l in
-    let rest = rest-size (start (r .before .before) .args .signature .now) 1 (2 * p l .b + 2 * p l .n) (omega (arith, sizes r .1)) in
-    ((r .ring-of .ensures .usable, tables l), (sym (exponents-count (c .before .before)), sym (evaluations-count (c .before)), rest))
+    let rest = rest-size (start (tests l) .args .signature .now) 1 (2 * p l .b + 2 * p l .n) (omega (arith, sizes l .1)) in
+    ((l .look-up .ensures .usable, l .look-up .ensures .tables), (sym (exponents-count (c .before .before)), sym (evaluations-count (c .before)), rest))
 
 returns-2 : tie.Need-returns-2
 returns-2 c =
     let d = c .before .before .before .before .before .before .before .before in
-    let r = ring (looked d) in
-    let is = decoded-answer _ _ _ (passed (r .before .before)) (r .ring-of .ensures .params) (d .decode-public-key .ensures .0)
+    let l = looked d in
+    let is = decoded-answer _ _ _ (passed (tests l)) (l .look-up .ensures .params) (d .decode-public-key .ensures .0)
     (d .decode-public-key .ensures .1) in
     stating _ _ _ (c .check-in .ensures ∙ is)
 
 pub check-spec : {M : Type 1} → statement M
 check-spec =
     tie.close
-    (tie.spec (λ c κs. search needs) returns (λ c. some-bytes (passed (c .before) .has-set)) (λ c κs. passed (c .before) .has-set .set)
-    (λ c. some-bytes (passed (c .before .before .before .before .before) .has-set))
-    (λ c κs. ltb-true _ 5 (passed (c .before .before .before .before .before) .has-set .set)) (λ c. omega (arith, fitting (c .before) .exponents))
-    (λ c. omega (arith, fitting (c .before) .size)) (λ c. omega (arith, sizes (ring (c .before)) .0)) (λ c. omega (arith, sizes (ring (c .before)) .0))
-    (λ c. search needs) decode-public-key-requires (λ c. table-room (c .before .before .before)) table-count
+    (tie.spec (λ c κs. search needs) returns (λ c. some-bytes (passed (c .before) .has-set)) (λ c κs. passed (c .before .before .before) .has-set .set)
+    (λ c. omega (arith, fitting (c .before) .exponents)) (λ c. omega (arith, fitting (c .before) .size)) (λ c. omega (arith, sizes (c .before) .0))
+    (λ c. omega (arith, sizes (c .before) .0)) (λ c. search needs) decode-public-key-requires
+    (λ c. looked (c .before .before .before) .look-up .ensures .room) (λ c. sym (looked (c .before .before .before .before) .look-up .ensures .tables .size))
     (λ c. exponents-room (c .before .before .before .before)) exponents-count (λ c. evaluations-room (c .before .before .before .before .before))
     evaluations-count signature-some (λ c. omega (arith, signature-some c)) (λ c. search needs) check-in-requires returns-2)

@@ -13,7 +13,7 @@ use Rattle.session_rules.specs.Held.{Chosen, Held}
 use Rattle.session_rules.specs.Commands.{afterCheck, check}
 use Rattle.session_state.specs.State.{hasExponents, hasEvaluations, chosenIn, heldIn}
 use Rattle.session_commands.proofs.Lent.{AllThree, all-three, checks, tested, answer-encoded}
-use Rattle.session_commands.proofs.LookedUp.{below, fitting, points-room, usable, table-lent, table-room}
+use Rattle.session_commands.proofs.LookedUp.{fitting, points-room, table-room, in-force}
 use Rattle.session_commands.proofs.checker.check_held.Statement.{statement}
 use Rattle.session_commands.proofs.checker.check_held.Tie as tie
 
@@ -29,16 +29,12 @@ module _ (s : tie.Start) where
   evaluations-size : length (take (s .args .p .t) (s .args .evaluations .now)) ≡ s .args .p .t
   evaluations-size = length-take-le (s .args .p .t) (s .args .evaluations .now) (omega (arith, points-room (s .pre .0 .0), s .pre .1 .0 .1))
 
-table-size : (c : tie.After-split-table) → length (c .split-table .result) ≡ 3456
-table-size c = search needs
-
 check-in-requires : tie.Need-check-in-requires
 check-in-requires c κs =
     let t = c .before .before .before .before .before in
-    let s = t .before .before .before .before .before .before .before in (
-      (usable (s .pre .0 .0) (t .before .before .ring-of .ensures), table-lent (s .pre .0 .0) (t .split-table .result) (t .split-table .ensures)),
-      (exponents-size s, evaluations-size s, s .pre .0 .1),
-    )
+    let s = t .before .before .before .before .before .before .before in
+    let found = in-force (s .pre .0 .0) (t .look-up .ensures) in
+    ((found .usable, found .tables), (exponents-size s, evaluations-size s, s .pre .0 .1))
 
 -- a verdict that the library gives decides
 module _ (c : tie.After-check-in) where
@@ -77,13 +73,11 @@ returns-3 c = (λ k m s. rw (decided (c .before .before .before .before) (c .bef
 pub check-held-spec : {M : Type 1} → statement M
 check-held-spec =
     tie.close
-    (tie.spec (λ c κs. c .before .before .before .before .pre .0 .0 .known)
-    (λ c κs. below (c .before .before .before .before .before .before .pre .0 .0))
+    (tie.spec (λ c κs. c .before .before .before .before .before .before .pre .0 .0 .known)
     (λ c. omega (arith, fitting (c .before .before .before .before .before .before .before .before .pre .0 .0) .exponents))
     (λ c. record { fits = omega (arith, table-room (c .before .before .before .before .before .before .before .before .pre .0 .0)) })
-    (λ c. omega (arith, table-room (c .before .before .before .before .before .before .before .before .before .pre .0 .0), table-size (c .before .before)))
-    (λ c. sym (table-lent (c .before .before .before .before .before .before .before .before .before .before .pre .0 .0)
-    (c .before .before .before .split-table .result) (c .before .before .before .split-table .ensures) .size))
+    (λ c. in-force (c .before .before .before .before .before .before .before .before .before .pre .0 .0) (c .before .before .look-up .ensures) .room)
+    (λ c. sym (in-force (c .before .before .before .before .before .before .before .before .before .before .pre .0 .0) (c .before .before .before .look-up .ensures) .tables .size))
     (λ c. sym (exponents-size (c .before .before .before .before .before .before .before .before .before .before .before)))
     (λ c. sym (evaluations-size (c .before .before .before .before .before .before .before .before .before .before .before .before))) check-in-requires
     (λ c. search needs)

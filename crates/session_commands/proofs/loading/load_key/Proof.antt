@@ -18,7 +18,7 @@ use Rattle.session_rules.specs.Held.{Held}
 use Rattle.session_rules.specs.Commands.{values, accepted, keyResidues, loadKey}
 use Rattle.session_state.specs.State.{heldIn}
 use Rattle.session_commands.proofs.Lent.{tested}
-use Rattle.session_commands.proofs.LookedUp.{below, sound, fitting, points-room, usable, table-lent, table-room}
+use Rattle.session_commands.proofs.LookedUp.{sound, fitting, points-room, table-room, in-force}
 use Rattle.session_commands.proofs.loading.load_key.Statement.{statement}
 use Rattle.session_commands.proofs.loading.load_key.Tie as tie
 
@@ -39,15 +39,12 @@ module _ (s : tie.Start) where
   key-room : s .args .p .n ≤ length (s .args .key .now)
   key-room = omega (arith, fitting (s .pre .0 .0) .size, s .pre .1 .0 .1)
 
-table-size : (c : tie.After-split-table) → length (c .split-table .result) ≡ 3456
-table-size c = search needs
-
 key-evaluations-requires : tie.Need-key-evaluations-requires
 key-evaluations-requires c κs =
     let t = c .before .before .before .before .before in
     let s = t .before .before .before .before .before .before .before .before .before in
-    let ring = usable (s .pre .0 .0) (t .before .before .ring-of .ensures) in (
-      (ring, table-lent (s .pre .0 .0) (t .split-table .result) (t .split-table .ensures)),
+    let found = in-force (s .pre .0 .0) (t .look-up .ensures) in (
+      (found .usable, found .tables),
       (
         s .pre .0 .1,
         exponents-size s,
@@ -101,17 +98,11 @@ returns-2 c =
 pub load-key-spec : {M : Type 1} → statement M
 load-key-spec =
     tie.close
-    (tie.spec (λ c κs. search needs) (λ c κs. search needs) returns (λ c κs. c .before .before .before .before .before .before .pre .0 .0 .known)
-    (λ c κs. below (c .before .before .before .before .before .before .before .before .pre .0 .0))
+    (tie.spec (λ c κs. search needs) (λ c κs. search needs) returns (λ c κs. c .before .before .before .before .before .before .before .before .pre .0 .0 .known)
     (λ c. omega (arith, fitting (c .before .before .before .before .before .before .before .before .before .before .pre .0 .0) .exponents))
     (λ c. record { fits = omega (arith, table-room (c .before .before .before .before .before .before .before .before .before .before .pre .0 .0)) })
-    (λ c. omega (
-      arith,
-      table-room (c .before .before .before .before .before .before .before .before .before .before .before .pre .0 .0),
-      table-size (c .before .before),
-    ))
-    (λ c. sym (table-lent (c .before .before .before .before .before .before .before .before .before .before .before .before .pre .0 .0)
-    (c .before .before .before .split-table .result) (c .before .before .before .split-table .ensures) .size))
+    (λ c. in-force (c .before .before .before .before .before .before .before .before .before .before .before .pre .0 .0) (c .before .before .look-up .ensures) .room)
+    (λ c. sym (in-force (c .before .before .before .before .before .before .before .before .before .before .before .before .pre .0 .0) (c .before .before .before .look-up .ensures) .tables .size))
     (λ c. sym (exponents-size (c .before .before .before .before .before .before .before .before .before .before .before .before .before)))
     (λ c. evaluations-room (c .before .before .before .before .before .before .before .before .before .before .before .before .before))
     (λ c. sym (length-take-le _ _ (evaluations-room

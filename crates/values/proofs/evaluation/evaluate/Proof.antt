@@ -6,15 +6,15 @@ use mathlib.Core.List.{List}
 use mathlib.Core.Logic.{Iff·rfl}
 use Prim.Native.Nat.{ℕ}
 use lib.ListN.{length}
+use native.Mathlib.Omega.{arith}
 use borrow.Author.Needs.{needs}
-use borrow.Author.Tests.{not-true, not-false, ltb-true}
+use borrow.Author.Tests.{not-true, not-false}
 use Rattle.parameters.specs.declared.Params.{Params}
 use Rattle.parameters.specs.Sets.{isSet}
 use Rattle.encoding.specs.Encoding.{areExponents}
 use Rattle.refusal.proofs.Refusal.{step}
 use Rattle.refusal.proofs.Answering.{stating, refused, kept, three-equal}
 use Rattle.values.specs.Evaluate.{evaluateLengths, evaluateRefusalIn, evaluateRefusal, evaluateWritten}
-use Rattle.split_tables.proofs.LentTable.{Lent, lent}
 use Rattle.values.proofs.evaluation.evaluate.Statement.{statement}
 use Rattle.values.proofs.evaluation.evaluate.Tie as tie
 
@@ -36,52 +36,41 @@ returns c = rw (sym (c .before .is-set .ensures) ∙ not-true _ (c .if1 .taken))
 returns-2 : tie.Need-returns-2
 unfolding evaluateRefusal evaluateWritten
 returns-2 c =
-    let g = c .before .before .before in
-    rw (known (g .before), ← g .ring-of .ensures .params, ← c .before .evaluate-refusal .ensures)
+    let g = c .before .before in
+    rw (known (g .before .before .before), ← g .look-up .ensures .params, ← c .before .evaluate-refusal .ensures)
     (stating (refused _ (c .if2 .taken), kept _ _ _ (c .if2 .taken)))
 
--- the set looked up, and what a call that is not refused has
-module _ (c : tie.After-evaluate-refusal) where
-  abbrev start : tie.Start
-  start = c .before .before .before .before .before .before
-
-  abbrev p : Params
-  p = c .before .before .ring-of .result .params
-
-  lengths : c .evaluate-refusal .result ≡ 0 →
-      let s = start .args in
-      ((length (s .coefficients .now) ≡ p .n) × (length (s .exponents .now) ≡ p .t) × (length (s .out .now) ≡ p .t))
-      × (areExponents p (s .exponents .now) ≡ true)
-  lengths e =
-      let s = start .args in
-      allowed p (length (s .coefficients .now)) (s .exponents .now) (length (s .out .now)) (sym (c .evaluate-refusal .ensures) ∙ e)
-
--- the table of the set's split
-module _ (c : tie.After-split-table) where
-  abbrev tests : tie.After-evaluate-refusal
-  tests = c .before .before .before
-
-  table : Lent (p tests) (c .split-table .result)
-  table = lent (tests .before .before .ring-of .ensures) (c .split-table .result) (c .split-table .ensures)
+-- what a call that is not refused has
+lengths : (c : tie.Else2) →
+    let s = c .before .before .before .before .before .before .before .before .args in
+    let p = c .before .before .look-up .result in
+    ((length (s .coefficients .now) ≡ p .n) × (length (s .exponents .now) ≡ p .t) × (length (s .out .now) ≡ p .t))
+    × (areExponents p (s .exponents .now) ≡ true)
+lengths c =
+    let s = c .before .before .before .before .before .before .before .before .args in
+    allowed (c .before .before .look-up .result) (length (s .coefficients .now)) (s .exponents .now) (length (s .out .now))
+    (sym (c .before .evaluate-refusal .ensures) ∙ c .if2 .left)
 
 evaluate-requires : tie.Need-evaluate-requires
 evaluate-requires c κs =
-    let g = c .before .before .before .before in
-    let r = tests g in
-    let a = lengths r (g .before .before .if2 .left) in
-    ((r .before .before .ring-of .ensures .usable, table g .split), (a .0 .0, a .1, a .0 .2 ∙ sym (a .0 .1)))
+    let t = c .before .before .before .before in
+    let found = t .before .before .look-up .ensures in
+    let a = lengths t in
+    ((found .usable, found .tables), (a .0 .0, a .1, a .0 .2 ∙ sym (a .0 .1)))
 
 returns-3 : tie.Need-returns-3
 unfolding evaluateRefusal evaluateWritten
 returns-3 c =
-    let t = c .before .before .before .before .before .before .before .before in
-    let g = t .before .before .before in
-    rw (known (g .before), ← g .ring-of .ensures .params, ← t .before .evaluate-refusal .ensures, t .if2 .left)
+    let t = c .before .before .before .before .before .before in
+    let g = t .before .before in
+    rw (known (g .before .before .before), ← g .look-up .ensures .params, ← t .before .evaluate-refusal .ensures, t .if2 .left)
     (stating (refl, c .before .evaluate .ensures))
 
 pub evaluate-spec : {M : Type 1} → statement M
 evaluate-spec =
     tie.close
-    (tie.spec (λ c κs. search needs) returns (λ c κs. known c) (λ c κs. search needs) returns-2
-    (λ c κs. ltb-true _ 5 (known (c .before .before .before .before .before))) (λ c. search needs) (λ c. search needs) (λ c. table (c .before .before) .room)
-    (λ c. sym (table (c .before .before .before) .split .size)) evaluate-requires (λ c. search needs) returns-3)
+    (tie.spec (λ c κs. search needs) returns (λ c κs. known (c .before .before)) (λ c κs. search needs) returns-2
+    (λ c. omega (arith, c .before .before .before .look-up .ensures .usable .fitting .exponents))
+    (λ c. record { fits = omega (arith, c .before .before .before .look-up .ensures .usable .fitting .size) })
+    (λ c. c .before .before .before .before .look-up .ensures .room) (λ c. sym (c .before .before .before .before .before .look-up .ensures .tables .size))
+    evaluate-requires (λ c. search needs) returns-3)

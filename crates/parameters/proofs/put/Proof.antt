@@ -7,14 +7,14 @@ use native.Mathlib.Omega.{arith}
 use lib.ListN.{length, length-set}
 use lib.Seq.{paste, paste-zero, paste-suc}
 use borrow.Author.Needs.{needs}
-use Rattle.split_tables.proofs.put.Statement.{statement}
-use Rattle.split_tables.proofs.put.Tie as tie
+use Rattle.parameters.proofs.put.Statement.{statement}
+use Rattle.parameters.proofs.put.Tie as tie
 
 abbrev Inv-loop : tie.InvT-loop
-Inv-loop out₀ at list i₀ out i = (i ≤ length list) × (length out ≡ length out₀) × (out ≡ paste out₀ at list i)
+Inv-loop out₀ at list n i₀ out i = (i ≤ n) × (length out ≡ length out₀) × (out ≡ paste out₀ at list i)
 
 abbrev μ-loop : tie.MeasureT-loop
-μ-loop out₀ at list i₀ out i = length list - i
+μ-loop out₀ at list n i₀ out i = n - i
 
 loop-again : tie.Need-loop-again Inv-loop μ-loop
 loop-again c =
@@ -25,7 +25,7 @@ loop-again c =
 returns : tie.Need-returns Inv-loop μ-loop
 returns c =
     let l = c .before .loop in
-    let e : l .i ≡ length (c .before .before .args .list .now) = omega arith in
+    let e : l .i ≡ c .before .before .args .n = omega arith in
     (l .inv .1, rw e at (l .inv .2))
 
 pub put-spec : {M : Type 1} → statement M
