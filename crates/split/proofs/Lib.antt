@@ -17,5 +17,6 @@ pub mod ValueLaws
 pub mod ProductLaws
 pub mod Shapes
 pub mod SetStages
+pub mod SetTable
 pub mod ChallengeLaws
 pub mod ReadingLaws

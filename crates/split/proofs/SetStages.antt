@@ -5,8 +5,7 @@ use mathlib.Core.List.{List, [], _∷_}
 use Prim.Native.Nat.{ℕ, _-_, _*_, _/_, _<_, _≤_}
 use native.Mathlib.Nat.{mul-le-mul-left, mul-one}
 use native.Mathlib.Omega.{arith}
-use lib.ListN.{length, getD, take, drop, length-drop}
-use lib.Seq.{take-length}
+use lib.ListN.{length, getD}
 use Rattle.parameters.specs.declared.Params.{Params}
 use Rattle.parameters.specs.Sound.{Sound, Fitting}
 use Rattle.transform.specs.Generator.{GeneratorTable}
@@ -21,11 +20,8 @@ by-length [] size first = absurd (omega (arith, first))
 by-length (x ∷ t) size first = omega (arith, size)
 
 -- a generator's table is not empty
-pub table-several : {base n : ℕ} {t : List ℕ} → GeneratorTable base n t → 1 < n
+table-several : {base n : ℕ} {t : List ℕ} → GeneratorTable base n t → 1 < n
 table-several {base} {n} {t} g = by-length t (g .size) (g .first)
-
-pub suffix : (t : List ℕ) (n : ℕ) → take (length t - n) (drop n t) ≡ drop n t
-suffix t n = ap (λ (m : ℕ). take m (drop n t)) (sym (length-drop n t)) ∙ take-length (drop n t)
 
 module _ {p : Params} {order twists rows : List ℕ} (sound : Sound p) (fitting : Fitting p) (tables : SplitTables p order twists rows) where
   pub modulus-of : Modulus (p .q)

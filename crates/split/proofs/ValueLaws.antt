@@ -5,9 +5,12 @@ use mathlib.Core.List.{List, map}
 use Prim.Native.Nat.{ℕ, _+_, _-_, _*_, _^_, _%_, _<_}
 use native.Mathlib.Nat.{mod-mod, mod-lt}
 use native.Mathlib.Omega.{arith}
+use lib.Dec.{T, ltb, lt→ltb}
 use lib.IntN.{ℤ, pos, _+ℤ_, _*ℤ_}
 use lib.ListN.{length, getD, length-map}
+use Rattle.algebra.specs.All.{areBelow}
 use Rattle.algebra.specs.Integer.{residue, sum}
+use Rattle.algebra.proofs.All.{all-from, below-at}
 use Rattle.algebra.proofs.Congruence.{Cong, cong-refl, cong-eq, cong-sym, cong-trans, cong-add, cong-mul, cong-residue, residue-eq, residue-below}
 use Rattle.algebra.proofs.Sum.{sum-cong}
 use Rattle.parameters.specs.declared.Params.{Params}
@@ -22,34 +25,48 @@ use Rattle.transform.proofs.GeneratorLaws.{table-power, table-generator}
 use Rattle.transform.proofs.ReorderedSum.{sum-forwards, r-round}
 use Rattle.transform.proofs.UpFrom.{map-at}
 use Rattle.split_tables.specs.Split.{SplitTables, shapeOf}
-use Rattle.split.specs.Fold.{Modulus}
 use Rattle.split.specs.Levels.{UnderIn}
 use Rattle.split.specs.Sparse.{Twice, sparseSum}
-use Rattle.split.specs.Values.{residuesInOrder, Correlated, AtExponents}
+use Rattle.split.specs.Values.{inOrder, Correlated, AtExponents}
 use Rattle.split.proofs.CorrelationLaws.{correlated-at}
 
--- ---- the coefficients in order
-pub residues-length : (q : ℕ) (f : List ℤ) (order : List ℕ) → length (residuesInOrder q f order) ≡ length order
-unfolding residuesInOrder
-residues-length q f order = length-map order (λ (e : ℕ). residue (coefficient f e) q)
+-- ---- numbers in the order of a table
+pub ordered-length : (numbers order : List ℕ) → length (inOrder numbers order) ≡ length order
+unfolding inOrder
+ordered-length numbers order = length-map order (λ (e : ℕ). getD numbers e 0)
 
-pub residues-under : {q : ℕ} → Modulus q → (f : List ℤ) (order : List ℕ)
-    → UnderIn q (residuesInOrder q f order) 0 (length (residuesInOrder q f order))
-unfolding residuesInOrder
-residues-under {q} modulus f order =
-    let some : 0 < q = omega (arith, modulus .from) in
+ordered-at : (numbers order : List ℕ) (i : ℕ) → i < length order → getD (inOrder numbers order) i 0 ≡ getD numbers (getD order i 0) 0
+unfolding inOrder
+ordered-at numbers order i h = map-at (λ (e : ℕ). getD numbers e 0) order i 0 0 h
+
+pub ordered-under : {q : ℕ} (numbers order : List ℕ) → T (areBelow q numbers) → T (areBelow (length numbers) order)
+    → UnderIn q (inOrder numbers order) 0 (length (inOrder numbers order))
+ordered-under {q} numbers order below inside =
     record {
       each = λ k h.
           let at : 0 + k ≡ k = omega arith in
-          let list = map (λ (e : ℕ). residue (coefficient f e) q) order in
-          let inside : k < length order = omega (arith, length-map order (λ (e : ℕ). residue (coefficient f e) q)) in
+          let place : k < length order = omega (arith, ordered-length numbers order) in
           omega (
             arith,
-            ap (λ (i : ℕ). getD list i 0) at,
-            map-at (λ (e : ℕ). residue (coefficient f e) q) order k 0 0 inside,
-            residue-below some (coefficient f (getD order k 0)),
+            ap (λ (i : ℕ). getD (inOrder numbers order) i 0) at,
+            ordered-at numbers order k place,
+            below-at q numbers below (getD order k 0) (below-at (length numbers) order inside k place),
           );
     }
+
+-- ---- the coefficients, reduced to 0..q-1
+abbrev lifted : ℕ → List ℤ → List ℕ
+lifted q f = map (λ (a : ℤ). residue a q) f
+
+pub lifted-at : (q : ℕ) (f : List ℤ) (i : ℕ) → i < length f → getD (lifted q f) i 0 ≡ residue (coefficient f i) q
+lifted-at q f i h = map-at (λ (a : ℤ). residue a q) f i 0 (pos 0) h
+
+pub lifted-below : {q : ℕ} → 0 < q → (f : List ℤ) → T (areBelow q (lifted q f))
+lifted-below {q} some f =
+    all-from (λ (v : ℕ). ltb v q) (lifted q f) 0
+    (λ k h.
+    let inside : k < length f = omega (arith, length-map f (λ (a : ℤ). residue a q)) in
+    lt→ltb (getD (lifted q f) k 0) q (omega (arith, lifted-at q f k inside, residue-below some (coefficient f k))))
 
 module _ {p : Params} {base : ℕ} {powers order : List ℕ} (usable : Usable p powers) (several : 1 < p .n) (table : GeneratorTable base (p .n) order)
     (f : List ℤ) (size : length f ≡ p .n) where
@@ -81,14 +98,17 @@ module _ {p : Params} {base : ℕ} {powers order : List ℕ} (usable : Usable p 
       }
 
   -- ---- the sums by the split
-  residues-at : (i : ℕ) → i < p .n - 1 → Cong (p .q) (entry (residuesInOrder (p .q) f order) i) (coefficient f (base ^ i % p .n))
-  unfolding residuesInOrder
+  residues-at : (i : ℕ) → i < p .n - 1 → Cong (p .q) (entry (inOrder (lifted (p .q) f) order) i) (coefficient f (base ^ i % p .n))
   residues-at i h =
+      let e = base ^ i % p .n in
+      let some : 0 < p .n = omega (arith, several) in
+      let below : e < length f = omega (arith, mod-lt (base ^ i) some, size) in
       cong-trans
       (cong-eq (ap pos
-      (map-at (λ (e : ℕ). residue (coefficient f e) (p .q)) order i 0 0 (omega (arith, table .size))
-      ∙ ap (λ (e : ℕ). residue (coefficient f e) (p .q)) (order-at i h))))
-      (cong-sym (cong-residue positive (coefficient f (base ^ i % p .n))))
+      (ordered-at (lifted (p .q) f) order i (omega (arith, table .size))
+      ∙ ap (λ (x : ℕ). getD (lifted (p .q) f) x 0) (order-at i h)
+      ∙ lifted-at (p .q) f e below)))
+      (cong-sym (cong-residue positive (coefficient f e)))
 
   -- ---- the sums of a challenge
   module _ {t : List ℕ} (twice : Twice powers order t) where
@@ -115,7 +135,8 @@ module _ {p : Params} {base : ℕ} {powers order : List ℕ} (usable : Usable p 
 
 -- with the tables of the split
 module _ {p : Params} {powers order twists rows : List ℕ} (usable : Usable p powers) (several : 1 < p .n) (tables : SplitTables p order twists rows)
-    (f : List ℤ) (size : length f ≡ p .n) {out : List ℕ} (stages : Correlated (p .q) (shapeOf (p .n) .l) twists rows (residuesInOrder (p .q) f order) out) where
+    (f : List ℤ) (size : length f ≡ p .n) {out : List ℕ}
+    (stages : Correlated (p .q) (shapeOf (p .n) .l) twists rows (inOrder (lifted (p .q) f) order) out) where
   some-q : 0 < p .q
   some-q = omega (arith, usable .sound .modulus)
 
@@ -124,16 +145,17 @@ module _ {p : Params} {powers order twists rows : List ℕ} (usable : Usable p p
   split-at m h =
       cong-add (cong-refl (coefficient f 0))
       (cong-trans (correlated-at (usable .sound) several tables stages m h)
-      (sum-cong (λ (i : ℕ). entry (residuesInOrder (p .q) f order) i *ℤ reorderedPowers (tables .base) p (i + m))
+      (sum-cong (λ (i : ℕ). entry (inOrder (lifted (p .q) f) order) i *ℤ reorderedPowers (tables .base) p (i + m))
       (λ (i : ℕ). coefficient f (tables .base ^ i % p .n) *ℤ reorderedPowers (tables .base) p (i + m)) (p .n - 1)
       (λ i hi. cong-mul (residues-at usable several (tables .generator) f size i hi) (cong-refl (reorderedPowers (tables .base) p (i + m))))))
 
-  pub split-values : {values : List ℕ} {first : ℕ} → first ≡ residue (coefficient f 0) (p .q)
-      → Placed order (λ (i : ℕ). (first + getD out i 0) % p .q) values (length order) → AtExponents p f values
-  split-values {values} {first} e placed =
+  pub split-values : {values : List ℕ} {first : ℕ} → first ≡ residue (coefficient f 0) (p .q) → length out ≡ p .n - 1
+      → Placed order (λ (i : ℕ). getD (map (λ (s : ℕ). (first + s) % p .q) out) i 0) values (length order) → AtExponents p f values
+  split-values {values} {first} e count placed =
       exponents-placed usable several (tables .generator) f size
       (λ m h.
-      residue-eq some-q
+      map-at (λ (s : ℕ). (first + s) % p .q) out m 0 0 (omega (arith, count))
+      ∙ residue-eq some-q
       (cong-trans
       (cong-add (cong-trans (cong-eq (ap pos e)) (cong-sym (cong-residue some-q (coefficient f 0)))) (cong-refl (entry out m)))
       (split-at m h)))

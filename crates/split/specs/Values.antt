@@ -7,18 +7,16 @@ use lib.Dec.{T}
 use lib.IntN.{ℤ}
 use lib.ListN.{length, getD, take, drop}
 use Rattle.algebra.specs.All.{areBelow}
-use Rattle.algebra.specs.Integer.{residue}
 use Rattle.parameters.specs.declared.Params.{Params}
 use Rattle.parameters.specs.Limits.{maxN}
-use Rattle.polynomial.specs.Polynomial.{coefficient}
 use Rattle.polynomial.specs.Evaluation.{evaluationResidue}
 use Rattle.split_tables.specs.Split.{shapeOf, width}
 use Rattle.split.specs.Levels.{Tree, Cut, Joined, rootOf}
 use Rattle.split.specs.Products.{Products}
 
--- the coefficients of f, reduced to 0..q-1, in the order of a table
-unfoldable pub residuesInOrder : ℕ → List ℤ → List ℕ → List ℕ
-residuesInOrder q f order = map (λ (e : ℕ). residue (coefficient f e) q) order
+-- the numbers of a list in the order of a table
+unfoldable pub inOrder : List ℕ → List ℕ → List ℕ
+inOrder numbers order = map (λ (e : ℕ). getD numbers e 0) order
 
 -- tables that the three stages can use
 pub record Staged (q start l : ℕ) (twists rows : List ℕ) : Type 0 where
@@ -37,10 +35,10 @@ pub record Correlated (q l : ℕ) (twists rows u out : List ℕ) : Type 0 where
   pub products : Products q (length twists) l xs rows ys
   pub joined : Joined q l (rootOf q twists) ys out 1 (length twists)
 
--- the same of the coefficients of f, with a set's tables t
-pub record SplitSums (p : Params) (t : List ℕ) (f : List ℤ) (out : List ℕ) : Type 0 where
+-- the same of the coefficients of a polynomial, reduced to 0..q-1, with a set's tables t
+pub record SplitSums (p : Params) (t lifted out : List ℕ) : Type 0 where
   pub stages : Correlated (p .q) (shapeOf (p .n) .l) (take (shapeOf (p .n) .k) (drop (p .n - 1) t)) (drop (p .n - 1 + shapeOf (p .n) .k) t)
-      (residuesInOrder (p .q) f (take (p .n - 1) t)) out
+      (inOrder lifted (take (p .n - 1) t)) out
 
 -- the evaluation at exponent e, in 0..q-1, stands at place e - 1, for each e of 1 .. N - 1
 pub record AtExponents (p : Params) (f : List ℤ) (values : List ℕ) : Type 0 where

@@ -1,17 +1,18 @@
 // Evaluation of a challenge at all exponents: its few rows of powers, added and taken off.
 ghost use mathlib.Core.Path.{_≡_};
+ghost use mathlib.Core.List.{map};
 ghost use Prim.Native.Nat.{_*_, _^_, _<_, _≤_};
 ghost use lib.Dec.{T};
-ghost use lib.IntN.{pos, natAbs, _+ℤ_};
-ghost use lib.ListN.{length, getD};
+ghost use lib.IntN.{natAbs, _+ℤ_};
+ghost use lib.ListN.{length};
 ghost use Rattle.algebra.specs.Integer.{residue, within};
 ghost use Rattle.parameters.specs.Limits.{maxN};
 ghost use Rattle.parameters.specs.Ring.{Usable};
 ghost use Rattle.polynomial.specs.Polynomial.{ternary};
-ghost use Rattle.transform.specs.Asks.{Places, Placed};
 ghost use Rattle.split_tables.specs.Split.{SplitTable, splitFrom};
 ghost use Rattle.split.specs.Fold.{Modulus, inverse};
 ghost use Rattle.split.specs.Values.{AtExponents};
+use crate::evaluation::place;
 use crate::fold::inverse_of;
 use crate::fold::reduce;
 use crate::sparse::powers_twice;
@@ -28,23 +29,19 @@ fn reduce_sum(a: i8, s: i32, q: u32, m: u32) -> u32
     reduce(lifted as u64, q, m)
 }
 
-// Coefficient 0 plus each sum, reduced to 0..q-1, at the place of its exponent.
-fn place_sums(first: i8, sums: &[i32], order: &[u32], q: u32, m: u32, out: &mut [u32])
-    requires { ⌜ Modulus q × (m ≡ inverse q) × (length (now sums) ≡ length (now order)) × T (within (maxN * 2 ^ 20) (now sums)) ⌝ }
-    requires { ⌜ (length (now out) ≡ length (now order)) × Places (length (now out)) (now order) ⌝ }
-    ensures size { λ _. ⌜ length (now (out .exit)) ≡ length (now (out .entry)) ⌝ }
-    ensures each { λ _. ⌜ Placed (now (order .entry)) (λ i. residue (first +ℤ getD (now (sums .entry)) i (pos 0)) q) (now (out .exit))
-        (length (now (order .entry))) ⌝ }
+// Coefficient 0 plus each sum, reduced to 0..q-1.
+fn reduce_sums(first: i8, sums: &[i32], q: u32, m: u32, out: &mut [u32])
+    requires { ⌜ Modulus q × (m ≡ inverse q) × T (within (maxN * 2 ^ 20) (now sums)) × (length (now out) ≡ length (now sums)) ⌝ }
+    ensures { λ _. ⌜ now (out .exit) ≡ map (λ s. residue (first +ℤ s) q) (now (sums .entry)) ⌝ }
 {
     let mut i: usize = 0;
-    while i < order.len() {
-        let at = order[i] as usize - 1;
-        out[at] = reduce_sum(first, sums[i], q, m);
+    while i < sums.len() {
+        out[i] = reduce_sum(first, sums[i], q, m);
         i += 1;
     }
 }
 
-// The evaluations of a challenge at the exponents 1 .. N - 1, in 0..q-1, in front.
+// The evaluations of a challenge at the exponents 1 .. N - 1, in 0..q-1, in front. The array of the powers then has the reduced sums.
 pub fn challenge_values(p: Params, powers: &[u32; MAX_N], split: &[u32], c: &[i8]) -> [u32; MAX_N]
     requires { ⌜ Usable p (now powers) × SplitTable p (now split) × (splitFrom ≤ p .q) × (length (now c) ≡ p .n) × T (ternary (now c)) ⌝ }
     ensures { λ r. ⌜ AtExponents p (now (c .entry)) r ⌝ }
@@ -53,17 +50,11 @@ pub fn challenge_values(p: Params, powers: &[u32; MAX_N], split: &[u32], c: &[i8
     let last = p.n - 1;
     let both = 2 * last;
     let m = inverse_of(q);
-    let twice = powers_twice(powers, &split[..last]);
+    let mut twice = powers_twice(powers, &split[..last]);
     let mut sums = [0i32; MAX_N];
     sparse_sums(c, &split[..last], &twice[..both], &mut sums[..last]);
+    reduce_sums(c[0], &sums[..last], q, m, &mut twice[..last]);
     let mut values = [0u32; MAX_N];
-    place_sums(
-        c[0],
-        &sums[..last],
-        &split[..last],
-        q,
-        m,
-        &mut values[..last],
-    );
+    place(&twice[..last], &split[..last], &mut values[..last]);
     values
 }

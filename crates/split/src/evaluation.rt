@@ -1,5 +1,7 @@
-// Evaluation at all exponents by the split, and the evaluations at the points read from it.
+// Evaluation at all exponents by the split. A loop that does arithmetic goes from each place to the next, so that the compiler takes several numbers at once; a
+// loop that goes by a table only moves numbers.
 ghost use mathlib.Core.Path.{_≡_};
+ghost use mathlib.Core.List.{map};
 ghost use Prim.Native.Nat.{_+_, _-_, _*_, _%_, _<_, _≤_};
 ghost use lib.Dec.{T};
 ghost use lib.ListN.{length, getD};
@@ -9,7 +11,7 @@ ghost use Rattle.parameters.specs.Ring.{Usable};
 ghost use Rattle.transform.specs.Asks.{Places, Placed};
 ghost use Rattle.split_tables.specs.Split.{SplitTable, splitFrom};
 ghost use Rattle.split.specs.Fold.{Modulus, inverse};
-ghost use Rattle.split.specs.Values.{Staged, Correlated, SplitSums, residuesInOrder, AtExponents};
+ghost use Rattle.split.specs.Values.{Staged, Correlated, SplitSums, inOrder, AtExponents};
 use crate::correlation::correlate;
 use crate::fold::inverse_of;
 use crate::fold::reduce;
@@ -32,36 +34,59 @@ fn lift(a: i16, q: u32) -> u32
     }
 }
 
-// The coefficients in the order of a table, reduced to 0..q-1.
-fn reorder(f: &[i16], order: &[u32], q: u32, out: &mut [u32])
-    requires { ⌜ Modulus q × (length (now out) ≡ length (now order)) × T (areBelow (length (now f)) (now order)) ⌝ }
-    ensures { λ _. ⌜ now (out .exit) ≡ residuesInOrder q (now (f .entry)) (now (order .entry)) ⌝ }
+// All coefficients reduced to 0..q-1.
+fn lift_all(f: &[i16], q: u32, out: &mut [u32])
+    requires { ⌜ Modulus q × (length (now out) ≡ length (now f)) ⌝ }
+    ensures { λ _. ⌜ now (out .exit) ≡ map (λ a. residue a q) (now (f .entry)) ⌝ }
 {
     let mut i: usize = 0;
-    while i < order.len() {
-        out[i] = lift(f[order[i] as usize], q);
+    while i < f.len() {
+        out[i] = lift(f[i], q);
         i += 1;
     }
 }
 
-// Coefficient 0 plus each sum, reduced to 0..q-1, at the place of its exponent.
-fn place(first: u32, sums: &[u32], order: &[u32], q: u32, m: u32, out: &mut [u32])
-    requires { ⌜ Modulus q × (m ≡ inverse q) × (length (now sums) ≡ length (now order)) ⌝ }
-    requires { ⌜ (length (now out) ≡ length (now order)) × Places (length (now out)) (now order) ⌝ }
+// Numbers in the order of a table.
+fn reorder(numbers: &[u32], order: &[u32], out: &mut [u32])
+    requires { ⌜ (length (now out) ≡ length (now order)) × T (areBelow (length (now numbers)) (now order)) ⌝ }
+    ensures { λ _. ⌜ now (out .exit) ≡ inOrder (now (numbers .entry)) (now (order .entry)) ⌝ }
+{
+    let mut i: usize = 0;
+    while i < order.len() {
+        out[i] = numbers[order[i] as usize];
+        i += 1;
+    }
+}
+
+// Coefficient 0 plus each sum, reduced to 0..q-1, in place.
+fn reduce_all(first: u32, sums: &mut [u32], q: u32, m: u32)
+    requires { ⌜ Modulus q × (m ≡ inverse q) ⌝ }
+    ensures { λ _. ⌜ now (sums .exit) ≡ map (λ s. (first + s) % q) (now (sums .entry)) ⌝ }
+{
+    let mut i: usize = 0;
+    while i < sums.len() {
+        sums[i] = reduce(wide(first) + wide(sums[i]), q, m);
+        i += 1;
+    }
+}
+
+// Each value at the place of its exponent.
+pub fn place(values: &[u32], order: &[u32], out: &mut [u32])
+    requires { ⌜ (length (now values) ≡ length (now order)) × (length (now out) ≡ length (now order)) × Places (length (now out)) (now order) ⌝ }
     ensures size { λ _. ⌜ length (now (out .exit)) ≡ length (now (out .entry)) ⌝ }
-    ensures each { λ _. ⌜ Placed (now (order .entry)) (λ i. (first + getD (now (sums .entry)) i 0) % q) (now (out .exit)) (length (now (order .entry))) ⌝ }
+    ensures each { λ _. ⌜ Placed (now (order .entry)) (λ i. getD (now (values .entry)) i 0) (now (out .exit)) (length (now (order .entry))) ⌝ }
 {
     let mut i: usize = 0;
     while i < order.len() {
         let at = order[i] as usize - 1;
-        out[at] = reduce(wide(first) + wide(sums[i]), q, m);
+        out[at] = values[i];
         i += 1;
     }
 }
 
-// The sums of the coefficients in the order of a table with the powers of g.
+// The sums of the reduced coefficients in the order of a table with the powers of g.
 fn sum_reordered(
-    f: &[i16],
+    lifted: &[u32],
     order: &[u32],
     twists: &[u32],
     rows: &[u32],
@@ -71,29 +96,37 @@ fn sum_reordered(
     y: &mut [u32],
 )
     requires { ⌜ Staged q (shape .start) (shape .l) (now twists) (now rows) × (m ≡ inverse q) ⌝ }
-    requires { ⌜ (length (now order) ≡ length (now twists) * shape .l) × (length (now y) ≡ length (now order)) × T (areBelow (length (now f)) (now order)) ⌝ }
+    requires { ⌜ T (areBelow q (now lifted)) × T (areBelow (length (now lifted)) (now order)) ⌝ }
+    requires { ⌜ (length (now order) ≡ length (now twists) * shape .l) × (length (now y) ≡ length (now order)) ⌝ }
     ensures size { λ _. ⌜ length (now (y .exit)) ≡ length (now (y .entry)) ⌝ }
     ensures stages { λ _. ⌜ Correlated q (shape .l) (now (twists .entry)) (now (rows .entry))
-        (residuesInOrder q (now (f .entry)) (now (order .entry))) (now (y .exit)) ⌝ }
+        (inOrder (now (lifted .entry)) (now (order .entry))) (now (y .exit)) ⌝ }
 {
     let last = order.len();
     let mut x = [0u32; MAX_N];
-    reorder(f, order, q, &mut x[..last]);
+    reorder(lifted, order, &mut x[..last]);
     correlate(&mut x[..last], twists, rows, shape.start, shape.l, q, m, y);
 }
 
 // The same with a set's tables.
-fn split_sums(p: Params, powers: &[u32; MAX_N], split: &[u32], f: &[i16], m: u32, y: &mut [u32])
-    requires { ⌜ Usable p (now powers) × SplitTable p (now split) × (splitFrom ≤ p .q) × (length (now f) ≡ p .n) ⌝ }
-    requires { ⌜ (m ≡ inverse (p .q)) × (length (now y) ≡ p .n - 1) ⌝ }
+fn split_sums(
+    p: Params,
+    powers: &[u32; MAX_N],
+    split: &[u32],
+    lifted: &[u32],
+    m: u32,
+    y: &mut [u32],
+)
+    requires { ⌜ Usable p (now powers) × SplitTable p (now split) × (splitFrom ≤ p .q) × (m ≡ inverse (p .q)) ⌝ }
+    requires { ⌜ (length (now lifted) ≡ p .n) × T (areBelow (p .q) (now lifted)) × (length (now y) ≡ p .n - 1) ⌝ }
     ensures size { λ _. ⌜ length (now (y .exit)) ≡ length (now (y .entry)) ⌝ }
-    ensures stages { λ _. ⌜ SplitSums p (now (split .entry)) (now (f .entry)) (now (y .exit)) ⌝ }
+    ensures stages { λ _. ⌜ SplitSums p (now (split .entry)) (now (lifted .entry)) (now (y .exit)) ⌝ }
 {
     let last = p.n - 1;
     let shape = shape_of(p.n);
     let to = last + shape.k;
     sum_reordered(
-        f,
+        lifted,
         &split[..last],
         &split[last..to],
         &split[to..],
@@ -104,24 +137,20 @@ fn split_sums(p: Params, powers: &[u32; MAX_N], split: &[u32], f: &[i16], m: u32
     );
 }
 
-// The evaluations at the exponents 1 .. N - 1, in 0..q-1, in front.
+// The evaluations at the exponents 1 .. N - 1, in 0..q-1, in front. Before them their array has the reduced coefficients.
 pub fn values_of(p: Params, powers: &[u32; MAX_N], split: &[u32], f: &[i16]) -> [u32; MAX_N]
     requires { ⌜ Usable p (now powers) × SplitTable p (now split) × (splitFrom ≤ p .q) × (length (now f) ≡ p .n) ⌝ }
     ensures { λ r. ⌜ AtExponents p (now (f .entry)) r ⌝ }
 {
+    let n = p.n;
     let q = p.q;
-    let last = p.n - 1;
+    let last = n - 1;
     let m = inverse_of(q);
-    let mut sums = [0u32; MAX_N];
-    split_sums(p, powers, split, f, m, &mut sums[..last]);
     let mut values = [0u32; MAX_N];
-    place(
-        lift(f[0], q),
-        &sums[..last],
-        &split[..last],
-        q,
-        m,
-        &mut values[..last],
-    );
+    lift_all(f, q, &mut values[..n]);
+    let mut sums = [0u32; MAX_N];
+    split_sums(p, powers, split, &values[..n], m, &mut sums[..last]);
+    reduce_all(values[0], &mut sums[..last], q, m);
+    place(&sums[..last], &split[..last], &mut values[..last]);
     values
 }
