@@ -1,15 +1,19 @@
 -- A level's loops, one turn at a time.
 -- Assumes nothing.
-use mathlib.Core.Path.{_≡_, refl, sym, ap, ap₂, _∙_}
+use mathlib.Core.Path.{_≡_, refl, sym, ap, ap₂, _∙_, subst}
 use mathlib.Core.List.{List}
 use Prim.Native.Nat.{ℕ, _+_, _*_, _<_, _≤_}
 use native.Mathlib.Nat.{add-mul, mul-le-mul-right}
 use native.Mathlib.Omega.{arith}
 use borrow.Author.Tests.{eqb-true, eqb-false}
-use lib.Dec.{eqb}
+use lib.Dec.{T, eqb}
 use lib.ListN.{length, getD, set, length-set}
 use lib.Seq.{getD-set-same, getD-set-other}
+use Rattle.algebra.specs.All.{areBelow}
+use Rattle.algebra.proofs.All.{below-at}
 use Rattle.algebra.proofs.Test.{by-test}
+use Rattle.parameters.specs.Limits.{maxN}
+use Rattle.split.specs.Fold.{Modulus, inverse}
 use Rattle.split.specs.Levels.{UnderIn, Paired, Level, Tripled, thirdLow, thirdHigh}
 
 -- a list with two of its numbers set, read at a third place
@@ -61,16 +65,30 @@ module _ {low high : ℕ → ℕ → ℕ} {from h : ℕ} {old : List ℕ} where
           behind = λ k l. two-other new (from + n) (from + h + n) a b k (λ e. omega arith) (λ e. omega arith) ∙ s .behind k l;
         }
 
--- what a turn reads is as it was, and so below what all numbers were below
-module _ {low high : ℕ → ℕ → ℕ} {from h n b : ℕ} {old new : List ℕ} (s : Paired low high from h old new n) (under : UnderIn b old from (h + h)) (k : ℕ)
-    (later : n ≤ k) (inside : k < h) where
-  pub first-under : getD new (from + k) 0 < b
-  first-under = omega (arith, s .rest-first k later inside, under .each k (omega arith))
+-- after the last turn
+pub paired-all : {low high : ℕ → ℕ → ℕ} {from h n : ℕ} {old new : List ℕ} → (n ≤ h) × Paired low high from h old new n → h ≤ n
+    → Paired low high from h old new h
+paired-all {low} {high} {from} {h} {n} {old} {new} (most, s) last = subst (Paired low high from h old new) (omega arith) s
 
-  pub second-under : getD new (from + h + k) 0 < b
-  second-under =
-      let at : from + (h + k) ≡ from + h + k = omega arith in
-      omega (arith, s .rest-second k later inside, under .each (h + k) (omega arith), ap (λ (i : ℕ). getD old i 0) at)
+-- the pair that a turn reads: its places, and its numbers, which are as they were and so below what all numbers were below
+pub record Pair (b from h n : ℕ) (x : List ℕ) : Type 0 where
+  pub more : n < h
+  pub place : from + h + n < length x
+  pub room : length x ≤ maxN
+  pub first : getD x (from + n) 0 < b
+  pub second : getD x (from + h + n) 0 < b
+
+pub pair-of : {low high : ℕ → ℕ → ℕ} {from h n b : ℕ} {old new : List ℕ} → Paired low high from h old new n → n < h
+    → (from + h + h ≤ length old) × (length old ≤ maxN) × UnderIn b old from (h + h) → Pair b from h n new
+pair-of {from = from} {h = h} {n = n} {old = old} s more (room, most, under) =
+    let at : from + (h + n) ≡ from + h + n = omega arith in
+    record {
+      more = more;
+      place = omega (arith, s .size);
+      room = omega (arith, s .size);
+      first = omega (arith, s .rest-first n (omega arith) more, under .each n (omega arith));
+      second = omega (arith, s .rest-second n (omega arith) more, under .each (h + n) (omega arith), ap (λ (i : ℕ). getD old i 0) at);
+    }
 
 -- ---- a level: one node more
 module _ {low high : ℕ → ℕ → ℕ → ℕ} {c : ℕ → ℕ} {h : ℕ} {old : List ℕ} where
@@ -105,24 +123,49 @@ module _ {low high : ℕ → ℕ → ℕ → ℕ} {c : ℕ → ℕ} {h : ℕ} {o
               t .behind k (omega (arith, add-mul n 1 (2 * h))) ∙ s .behind k (omega (arith, add-mul n 1 (2 * h)));
         }
 
+-- after the last turn
+pub level-all : {low high : ℕ → ℕ → ℕ → ℕ} {c : ℕ → ℕ} {h n nodes : ℕ} {old new : List ℕ} → (n ≤ nodes) × Level low high c h old new n → nodes ≤ n
+    → Level low high c h old new nodes
+level-all {low} {high} {c} {h} {n} {nodes} {old} {new} (most, s) last = subst (Level low high c h old new) (omega arith) s
+
 -- the blocks up to a node's end are among all
 pub node-room : (h n nodes : ℕ) → n < nodes → n * (2 * h) + (h + h) ≤ nodes * (2 * h)
 node-room h n nodes l = omega (arith, mul-le-mul-right {m = n + 1} {n = nodes} (2 * h) (omega arith), add-mul n 1 (2 * h))
 
--- the block of a node that no turn before has written
-pub node-under : {low high : ℕ → ℕ → ℕ → ℕ} {c : ℕ → ℕ} {h n nodes b : ℕ} {old new : List ℕ} → Level low high c h old new n → n < nodes
-    → UnderIn b old 0 (nodes * (2 * h)) → UnderIn b new (n * (2 * h)) (h + h)
-node-under {h = h} {n = n} {nodes = nodes} {old = old} s l under =
+-- the node of a turn: the place of its twist, and what its block and its twist are asked
+pub record Node (q m nodes h b : ℕ) (twists x : List ℕ) : Type 0 where
+  pub more : b < nodes
+  pub place : nodes + b < length twists
+  pub asks : (Modulus q × (m ≡ inverse q) × (getD twists (nodes + b) 0 < q))
+      × ((b * (2 * h) + h + h ≤ length x) × (length x ≤ maxN) × UnderIn (61 * q) x (b * (2 * h)) (h + h))
+
+-- no turn before has written the block
+pub node-of : {low high : ℕ → ℕ → ℕ → ℕ} {c : ℕ → ℕ} {q m nodes h b : ℕ} {twists old new : List ℕ} → Level low high c h old new b → b < nodes
+    → (Modulus q × (m ≡ inverse q) × T (areBelow q twists) × (nodes + nodes ≤ length twists))
+    × ((nodes * (2 * h) ≤ length old) × (length old ≤ maxN) × UnderIn (61 * q) old 0 (nodes * (2 * h)))
+    → Node q m nodes h b twists new
+node-of {q = q} {nodes = nodes} {h = h} {b = b} {twists = twists} {old = old} s more ((modulus, is, below, twisted), (room, most, under)) =
+    let end = node-room h b nodes more in
     record {
-      each = λ k m.
-          let below = mul-le-mul-right {m = n + 1} {n = nodes} (2 * h) (omega arith) in
-          let at : 0 + (n * (2 * h) + k) ≡ n * (2 * h) + k = omega arith in
-          omega (
-            arith,
-            s .behind (n * (2 * h) + k) (omega arith),
-            ap (λ (i : ℕ). getD old i 0) at,
-            under .each (n * (2 * h) + k) (omega (arith, below, add-mul n 1 (2 * h))),
-          );
+      more = more;
+      place = omega arith;
+      asks = (
+        (modulus, is, below-at q twists below (nodes + b) (omega arith)),
+        (
+          omega (arith, end, s .size),
+          omega (arith, s .size),
+          record {
+            each = λ k l.
+                let at : 0 + (b * (2 * h) + k) ≡ b * (2 * h) + k = omega arith in
+                omega (
+                  arith,
+                  s .behind (b * (2 * h) + k) (omega arith),
+                  ap (λ (i : ℕ). getD old i 0) at,
+                  under .each (b * (2 * h) + k) (omega (arith, end)),
+                );
+          },
+        ),
+      );
     }
 
 -- ---- thirds: one triple more
@@ -190,14 +233,29 @@ module _ {q c d h : ℕ} {old : List ℕ} where
           rest-third = λ k l m. other (h + h + k) (λ e. omega arith) (λ e. omega arith) (λ e. omega arith) ∙ s .rest-third k (omega arith) m;
         }
 
-pub triple-under : {q c d h n b : ℕ} {old new : List ℕ} → Tripled q c d h old new n → UnderIn b old 0 (h + h + h) → (k : ℕ) → n ≤ k → k < h
-    → (getD new k 0 < b) × (getD new (h + k) 0 < b) × (getD new (h + h + k) 0 < b)
-triple-under {h = h} {old = old} s under k later inside =
-    let read : ℕ → ℕ = λ i. getD old i 0 in
-    let at1 : 0 + k ≡ k = omega arith in
-    let at2 : 0 + (h + k) ≡ h + k = omega arith in
-    let at3 : 0 + (h + h + k) ≡ h + h + k = omega arith in (
-      omega (arith, s .rest-first k later inside, ap read at1, under .each k (omega arith)),
-      omega (arith, s .rest-second k later inside, ap read at2, under .each (h + k) (omega arith)),
-      omega (arith, s .rest-third k later inside, ap read at3, under .each (h + h + k) (omega arith)),
-    )
+-- after the last turn
+pub tripled-all : {q c d h n : ℕ} {old new : List ℕ} → (n ≤ h) × Tripled q c d h old new n → h ≤ n → Tripled q c d h old new h
+tripled-all {q} {c} {d} {h} {n} {old} {new} (most, s) last = subst (Tripled q c d h old new) (omega arith) s
+
+-- the triple that a turn reads
+pub record Triple (b h n : ℕ) (x : List ℕ) : Type 0 where
+  pub more : n < h
+  pub place : h + h + n < length x
+  pub room : length x ≤ maxN
+  pub first : getD x n 0 < b
+  pub second : getD x (h + n) 0 < b
+  pub third : getD x (h + h + n) 0 < b
+
+pub triple-of : {q c d h n b : ℕ} {old new : List ℕ} → Tripled q c d h old new n → n < h
+    → (h + h + h ≤ length old) × (length old ≤ maxN) × UnderIn b old 0 (h + h + h) → Triple b h n new
+triple-of {h = h} {n = n} {b = b} {old = old} s more (room, most, under) =
+    let below : (k : ℕ) → k < h + h + h → getD old k 0 < b = λ k l. let at : 0 + k ≡ k = omega arith in
+    omega (arith, ap (λ (i : ℕ). getD old i 0) at, under .each k l) in
+    record {
+      more = more;
+      place = omega (arith, s .size);
+      room = omega (arith, s .size);
+      first = omega (arith, s .rest-first n (omega arith) more, below n (omega arith));
+      second = omega (arith, s .rest-second n (omega arith) more, below (h + n) (omega arith));
+      third = omega (arith, s .rest-third n (omega arith) more, below (h + h + n) (omega arith));
+    }

@@ -1,6 +1,6 @@
 -- What a pair is taken to at a level, modulo q: sums with the twists of the two halves.
 -- Assumes nothing.
-use mathlib.Core.Path.{_≡_, sym, ap}
+use mathlib.Core.Path.{_≡_, refl, sym, ap}
 use Prim.Native.Nat.{ℕ, _+_, _-_, _*_, _^_, _<_, _≤_}
 use native.Mathlib.Nat.{mul-comm}
 use native.Mathlib.Omega.{arith}
@@ -24,10 +24,14 @@ less-multiple q k n h =
 neg-times : (c b : ℤ) → negℤ (c *ℤ b) ≡ negℤ c *ℤ b
 neg-times c b = simp ring
 
+-- a twist times a number, which are read as w and z
+pub twist-product : {q c w z : ℕ} → Modulus q → c < q → w ≡ c → z < 128 * q → w * z < 2 ^ 47
+twist-product modulus c-below is z-below =
+    product-below {m = 2 ^ 20} {n = 2 ^ 27} (omega (arith, is, c-below, modulus .to)) (omega (arith, z-below, modulus .to))
+
 module _ {q : ℕ} (modulus : Modulus q) (c a b : ℕ) (c-below : c < q) (a-below : a < 61 * q) (b-below : b < 61 * q) where
   product-small : c * b < 2 ^ 51
-  product-small = let product = product-below {a = c} {b = b} {m = 2 ^ 20} {n = 2 ^ 26} (omega (arith, modulus .to)) (omega (arith, modulus .to)) in omega
-      (arith, product)
+  product-small = omega (arith, twist-product {z = b} modulus c-below refl (omega arith))
 
   turned : Cong q (pos (folded q (c * b))) (pos c *ℤ pos b)
   turned = folded-cong modulus (c * b) product-small
@@ -52,9 +56,7 @@ module _ {q : ℕ} (modulus : Modulus q) (c a b : ℕ) (c-below : c < q) (a-belo
   cut-grows h = let below = folded-below modulus (c * b) product-small in (omega arith, omega arith)
 
   join-product : c * (a + (64 * q - b)) < 2 ^ 51
-  join-product =
-      let product = product-below {a = c} {b = a + (64 * q - b)} {m = 2 ^ 20} {n = 2 ^ 27} (omega (arith, modulus .to)) (omega (arith, modulus .to)) in
-      omega (arith, product)
+  join-product = omega (arith, twist-product {z = a + (64 * q - b)} modulus c-below refl (omega arith))
 
   pub join-high-below : joinHigh q c a b < 3 * q
   join-high-below = folded-below modulus (c * (a + (64 * q - b))) join-product
@@ -76,9 +78,12 @@ module _ {q : ℕ} (modulus : Modulus q) (c d a b e : ℕ) (c-below : c < q) (d-
     (e-below : e < 61 * q) where
   third-small : a + c * b + d * e < 2 ^ 51
   third-small =
-      let first = product-below {a = c} {b = b} {m = 2 ^ 20} {n = 2 ^ 26} (omega (arith, modulus .to)) (omega (arith, modulus .to)) in
-      let second = product-below {a = d} {b = e} {m = 2 ^ 20} {n = 2 ^ 26} (omega (arith, modulus .to)) (omega (arith, modulus .to)) in
-      omega (arith, first, second, modulus .to)
+      omega (
+        arith,
+        twist-product {z = b} modulus c-below refl (omega arith),
+        twist-product {z = e} modulus d-below refl (omega arith),
+        modulus .to,
+      )
 
   pub third-high : Cong q (pos (thirdHigh q c d a b e)) (pos a +ℤ pos c *ℤ pos b +ℤ pos d *ℤ pos e)
   third-high = folded-cong modulus (a + c * b + d * e) third-small

@@ -1,23 +1,23 @@
--- `third_part` meets its contract: two products below 2^46 and a number.
+-- `third_part` meets its contract: two products below 2^47 and a number.
 -- Assumes nothing.
 use mathlib.Core.Path.{ap, ap₂, _∙_}
 use Prim.Native.Nat.{_+_, _*_, _^_, _<_}
 use native.Mathlib.Omega.{arith}
 use borrow.Author.Needs.{needs}
-use Rattle.algebra.proofs.Remainder.{product-below}
 use Rattle.split.specs.Fold.{folded}
+use Rattle.split.proofs.PairValues.{twist-product}
 use Rattle.split.proofs.levels.third_part.Statement.{statement}
 use Rattle.split.proofs.levels.third_part.Tie as tie
 
-first-small : (c : tie.After-wide3) → c .before .wide2 .result * c .wide3 .result < 2 ^ 46
+first-small : (c : tie.After-wide3) → c .before .wide2 .result * c .wide3 .result < 2 ^ 47
 first-small c =
     let p = c .before .before .before .pre in
-    product-below {m = 2 ^ 20} {n = 2 ^ 26} (omega (arith, c .before .wide2 .ensures .0, p .2, p .0 .to)) (omega (arith, c .wide3 .ensures .0, p .5, p .0 .to))
+    twist-product (p .0) (p .2) (c .before .wide2 .ensures .0) (omega (arith, c .wide3 .ensures .0, p .5))
 
-second-small : (c : tie.After-wide5) → c .before .wide4 .result * c .wide5 .result < 2 ^ 46
+second-small : (c : tie.After-wide5) → c .before .wide4 .result * c .wide5 .result < 2 ^ 47
 second-small c =
     let p = c .before .before .before .before .before .pre in
-    product-below {m = 2 ^ 20} {n = 2 ^ 26} (omega (arith, c .before .wide4 .ensures .0, p .3, p .0 .to)) (omega (arith, c .wide5 .ensures .0, p .6, p .0 .to))
+    twist-product (p .0) (p .3) (c .before .wide4 .ensures .0) (omega (arith, c .wide5 .ensures .0, p .6))
 
 pub third-part-spec : {M : Type 1} → statement M
 third-part-spec =

@@ -7,6 +7,7 @@ use native.Mathlib.Omega.{arith}
 use lib.ListN.{length, length-set}
 use lib.Seq.{sets}
 use borrow.Author.Needs.{needs}
+use Rattle.parameters.specs.Limits.{maxN}
 use Rattle.transform.specs.UpFrom.{upFrom}
 use Rattle.split.proofs.ProductLaws.{total, product, product-is, four-more, summed-small}
 use Rattle.split.proofs.products.fill_by_four.Statement.{statement}
@@ -32,13 +33,23 @@ small c s k is at =
     let a = c .before .before .before .before .before .before .args in
     summed-small (a .x .now) (a .i) (a .rows .now) k (a .l) is (p .0 .2) (p .1 .0 .0) (p .1 .1 .0) (omega (arith, p .1 .1))
 
+-- the places that a turn writes
+inside : (c : tie.In-loop Inv-loop μ-loop)
+    → (let a = c .before .before .before .before .before .args in
+    let v = c .before .loop .v in
+    (v + 4 ≤ a .l) × (a .i + v + 3 < maxN) × (a .i + v + 3 < length (c .before .loop .y)))
+inside c =
+    let p = c .before .before .before .before .before .pre .1 .0 in
+    let more = c .loop-test .taken in
+    (more, omega (arith, more, p .1, p .2), omega (arith, more, p .3, c .before .loop .inv .1))
+
 loop-again : tie.Need-loop-again Inv-loop μ-loop
 loop-again c =
     let a = c .before .before .before .before .before .before .before .before .before .before .args in
     let l = c .before .before .before .before .before .before .loop in
     let is = c .before .before .before .before .four-dots .ensures in
     let f = product (a .q) (a .x .now) (a .i) (a .rows .now) (a .j) (a .l) in (
-      omega arith,
+      inside (c .before .before .before .before .before) .0,
       simp length-set (l .inv .1),
       four-more f (a .y .now) (a .i) (l .v) (l .inv .2)
           (product-is (a .q) (a .x .now) (a .i) (a .rows .now) (a .j) (a .l) (l .v) (c .before .before .before .fold .ensures .0) (is .0) refl)
@@ -47,39 +58,38 @@ loop-again c =
           (product-is (a .q) (a .x .now) (a .i) (a .rows .now) (a .j) (a .l) (l .v + 3) (c .fold4 .ensures .0) (is .3) (omega arith)),
     )
 
--- y has room for the four
-inside : (c : tie.After-four-dots Inv-loop μ-loop)
-    → c .before .before .before .before .before .before .args .i + c .before .before .loop .v + 3 < length (c .before .before .loop .y)
-inside c = omega (arith, c .before .before .loop .inv .1, c .before .before .before .before .before .before .pre .1 .0 .3)
-
 pub fill-by-four-spec : {M : Type 1} → statement M
 fill-by-four-spec =
     tie.close
     (tie.spec Inv-loop μ-loop (λ c. (omega arith, refl, refl))
     (λ c. search needs) (λ c. search needs)
     four-dots-requires
-    (λ c. search needs)
+    (λ c. omega (arith, inside (c .before)))
     (λ c κs.
     let p = c .before .before .before .before .before .before .pre in
     (p .0 .0, p .0 .1, small c _ _ (c .four-dots .ensures .0) (omega arith)))
-    (λ c. search needs)
-    (λ c. omega (arith, inside (c .before)))
+    (λ c. omega (arith, inside (c .before .before)))
+    (λ c. omega (arith, inside (c .before .before)))
     (λ c κs.
     let p = c .before .before .before .before .before .before .before .pre in
     (p .0 .0, p .0 .1, small (c .before) _ _ (c .before .four-dots .ensures .1) (omega arith)))
-    (λ c. search needs) (λ c. search needs)
-    (λ c. simp length-set (omega (arith, inside (c .before .before))))
+    (λ c. omega (arith, inside (c .before .before .before)))
+    (λ c. omega (arith, inside (c .before .before .before)))
+    (λ c. simp length-set (omega (arith, inside (c .before .before .before))))
     (λ c κs.
     let p = c .before .before .before .before .before .before .before .before .pre in
     (p .0 .0, p .0 .1, small (c .before .before) _ _ (c .before .before .four-dots .ensures .2) (omega arith)))
-    (λ c. search needs) (λ c. search needs)
-    (λ c. simp length-set (omega (arith, inside (c .before .before .before))))
+    (λ c. omega (arith, inside (c .before .before .before .before)))
+    (λ c. omega (arith, inside (c .before .before .before .before)))
+    (λ c. simp length-set (omega (arith, inside (c .before .before .before .before))))
     (λ c κs.
     let p = c .before .before .before .before .before .before .before .before .before .pre in
     (p .0 .0, p .0 .1, small (c .before .before .before) _ _ (c .before .before .before .four-dots .ensures .3) (omega arith)))
-    (λ c. search needs) (λ c. search needs)
-    (λ c. simp length-set (omega (arith, inside (c .before .before .before .before))))
-    (λ c. search needs) (λ c. search needs)
+    (λ c. omega (arith, inside (c .before .before .before .before .before)))
+    (λ c. omega (arith, inside (c .before .before .before .before .before)))
+    (λ c. simp length-set (omega (arith, inside (c .before .before .before .before .before))))
+    (λ c. omega (arith, inside (c .before .before .before .before .before)))
+    (λ c. omega (arith, inside (c .before .before .before .before .before)))
     loop-again
     (λ c. c .before .loop .inv .1)
     (λ c. (c .before .loop .inv .0, c .before .loop .inv .2)))

@@ -17,6 +17,17 @@ Inv-loop a i b j n s0₀ s1₀ s2₀ s3₀ x₀ s0 s1 s2 s3 x =
 abbrev μ-loop : tie.MeasureT-loop
 μ-loop a i b j n s0₀ s1₀ s2₀ s3₀ x₀ s0 s1 s2 s3 x = n - x
 
+-- the numbers that a turn reads
+inside : (c : tie.In-loop Inv-loop μ-loop)
+    → (let a = c .before .before .before .before .args in
+    let x = c .before .loop .x in
+    (x + 2 ≤ a .n) × (a .i + x + 1 < length (a .a .now)) × (length (a .a .now) ≤ maxN) × (a .j + x + 4 < length (a .b .now))
+    × (length (a .b .now) ≤ 2 * maxN))
+inside c =
+    let p = c .before .before .before .before .pre in
+    let more = c .loop-test .taken in
+    (more, omega (arith, more, p .0 .1), p .0 .2, omega (arith, more, p .1 .1), p .1 .2)
+
 -- what a call of `two_products` asks of its place in b
 asks : (c : tie.After-wide2 Inv-loop μ-loop) (at : ℕ)
     → at ≤ c .before .before .before .before .before .before .before .before .args .j + c .before .before .before .before .before .loop .x + 3
@@ -53,7 +64,7 @@ loop-again c =
     let l = c .before .before .before .before .before .before .before .before .before .loop in
     let f = c .before .before .before .before .before .before .wide .ensures .0 in
     let g = c .before .before .before .before .wide2 .ensures .0 in (
-      omega arith,
+      inside (c .before .before .before .before .before .before .before .before) .0,
       summed-two (a .a .now) (a .i) (a .b .now) (a .j) (l .x) (l .inv .1) f g (c .before .before .before .two-products .ensures .0) refl,
       summed-two (a .a .now) (a .i) (a .b .now) (a .j + 1) (l .x) (l .inv .2) f g (c .before .before .two-products2 .ensures .0) (omega arith),
       summed-two (a .a .now) (a .i) (a .b .now) (a .j + 2) (l .x) (l .inv .3) f g (c .before .two-products3 .ensures .0) (omega arith),
@@ -67,28 +78,31 @@ four-dots-spec =
     (λ c. let a = c .before .before .args in
     let none = total-none (a .a .now) (a .i) (a .b .now) in
     (omega arith, none (a .j), none (a .j + 1), none (a .j + 2), none (a .j + 3)))
-    (λ c. search needs) (λ c. search needs) (λ c. search needs) (λ c. search needs) (λ c κs. search needs)
-    (λ c. search needs) (λ c. search needs) (λ c. search needs) (λ c. search needs) (λ c κs. search needs)
-    (λ c. search needs)
+    (λ c. search needs) (λ c. omega (arith, inside c)) (λ c. omega (arith, inside c)) (λ c. omega (arith, inside (c .before))) (λ c κs. search needs)
+    (λ c. omega (arith, inside (c .before .before))) (λ c. omega (arith, inside (c .before .before))) (λ c. omega (arith, inside (c .before .before)))
+    (λ c. omega (arith, inside (c .before .before .before))) (λ c κs. search needs)
+    (λ c. omega (arith, inside (c .before .before .before .before)))
     (λ c κs. asks c _ (omega arith))
     (λ c. record { fits = room c _ _ _ (c .before .before .before .before .before .before .loop .inv .1) (omega arith) (c .two-products .ensures .1) })
-    (λ c. search needs) (λ c. search needs)
+    (λ c. omega (arith, inside (c .before .before .before .before .before))) (λ c. omega (arith, inside (c .before .before .before .before .before)))
     (λ c κs. asks (c .before) _ (omega arith))
     (λ c.
     let l = c .before .before .before .before .before .before .before .loop in
     record { fits = room (c .before) _ _ _ (l .inv .2) (omega arith) (c .two-products2 .ensures .1) })
-    (λ c. search needs) (λ c. search needs)
+    (λ c. omega (arith, inside (c .before .before .before .before .before .before)))
+    (λ c. omega (arith, inside (c .before .before .before .before .before .before)))
     (λ c κs. asks (c .before .before) _ (omega arith))
     (λ c.
     let l = c .before .before .before .before .before .before .before .before .loop in
     record { fits = room (c .before .before) _ _ _ (l .inv .3) (omega arith) (c .two-products3 .ensures .1) })
-    (λ c. search needs) (λ c. search needs)
+    (λ c. omega (arith, inside (c .before .before .before .before .before .before .before)))
+    (λ c. omega (arith, inside (c .before .before .before .before .before .before .before)))
     (λ c κs. asks (c .before .before .before) _ (omega arith))
     (λ c.
     let l = c .before .before .before .before .before .before .before .before .before .loop in
     record { fits = room (c .before .before .before) _ _ _ (l .inv .4) (omega arith) (c .two-products4 .ensures .1) })
-    (λ c. search needs)
-    (λ c. search needs)
+    (λ c. omega (arith, inside (c .before .before .before .before .before .before .before .before)))
+    (λ c. omega (arith, inside (c .before .before .before .before .before .before .before .before)))
     loop-again
     (λ c κs.
     let l = c .before .loop in
