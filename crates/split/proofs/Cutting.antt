@@ -100,7 +100,7 @@ module _ {q start : ℕ} {twists : List ℕ} (tree : Tree q start twists) (l : �
             cong-trans (eq-residue (positive tree) (cut .each b (j * half + s) (a * h + i) node few here))
             (cong-eq (ap (λ (x : ℕ). sum (λ (c : ℕ). pos (root x ^ (2 * half * c)) *ℤ entry u (c * (2 * half * l) + (a * h + i))) nodes) which))
 
-        pub half-cut : Cong q (entry new ((b * 2 + j) * h + i)) (sum (λ (c : ℕ). pos (root leaf ^ (half * c)) *ℤ entry u (c * h + i)) (nodes * 2))
+        half-cut : Cong q (entry new ((b * 2 + j) * h + i)) (sum (λ (c : ℕ). pos (root leaf ^ (half * c)) *ℤ entry u (c * h + i)) (nodes * 2))
         half-cut = cong-trans terms (cut-part q root 2 nodes half l (entry u) (entry old) b j s i above)
 
     pub level-cuts : CutFurther q l root nodes (2 * half) old (nodes + nodes) half new

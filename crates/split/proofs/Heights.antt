@@ -86,7 +86,7 @@ module _ {start k nodes leaves : ℕ} (at : Height start k nodes leaves) (more :
       let e : at .down ≡ suc below = omega (arith, lower (at .down) (at .leaves-are)) in
       at .leaves-are ∙ ap (λ (x : ℕ). 2 ^ x) e ∙ pow-suc 2 below
 
-  pub half-of : leaves / 2 ≡ 2 ^ below
+  half-of : leaves / 2 ≡ 2 ^ below
   half-of = ap (λ (x : ℕ). x / 2) half-is ∙ mul-div-cancel (2 ^ below) (omega arith)
 
   pub two-halves : 2 * (leaves / 2) ≡ leaves

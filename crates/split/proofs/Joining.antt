@@ -85,7 +85,7 @@ module _ {q start : ℕ} {twists : List ℕ} (tree : Tree q start twists) (l : �
             (sum (λ (s : ℕ). pos (root ((b * 2 + j) * half + s) ^ e) *ℤ entry y (((b * 2 + j) * half + s) * l + v)) half)
         below j hj = eq-residue (positive tree) (joined .each (b * 2 + j) e v (omega arith) inside place)
 
-        pub half-joined : Cong q (entry new (b * (2 * h) + (a * h + (e * l + v))))
+        half-joined : Cong q (entry new (b * (2 * h) + (a * h + (e * l + v))))
             (sum (λ (s : ℕ). pos (root (b * (2 * half) + s) ^ (a * half + e)) *ℤ entry y ((b * (2 * half) + s) * l + v)) (2 * half))
         half-joined =
             let within : e * l + v < h = omega (arith, mul-le-mul-right {m = e + 1} {n = half} l (omega arith), add-mul e 1 l) in

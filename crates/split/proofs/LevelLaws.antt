@@ -132,6 +132,11 @@ level-all {low} {high} {c} {h} {n} {nodes} {old} {new} (most, s) last = subst (L
 pub node-room : (h n nodes : ℕ) → n < nodes → n * (2 * h) + (h + h) ≤ nodes * (2 * h)
 node-room h n nodes l = omega (arith, mul-le-mul-right {m = n + 1} {n = nodes} (2 * h) (omega arith), add-mul n 1 (2 * h))
 
+-- what a level of so many nodes asks of its twists and numbers
+abbrev pub LevelAsks : ℕ → ℕ → ℕ → ℕ → List ℕ → List ℕ → Type 0
+LevelAsks q m nodes h twists x = (Modulus q × (m ≡ inverse q) × T (areBelow q twists) × (nodes + nodes ≤ length twists))
+    × ((nodes * (2 * h) ≤ length x) × (length x ≤ maxN) × UnderIn (61 * q) x 0 (nodes * (2 * h)))
+
 -- the node of a turn: the place of its twist, and what its block and its twist are asked
 pub record Node (q m nodes h b : ℕ) (twists x : List ℕ) : Type 0 where
   pub more : b < nodes
@@ -141,9 +146,7 @@ pub record Node (q m nodes h b : ℕ) (twists x : List ℕ) : Type 0 where
 
 -- no turn before has written the block
 pub node-of : {low high : ℕ → ℕ → ℕ → ℕ} {c : ℕ → ℕ} {q m nodes h b : ℕ} {twists old new : List ℕ} → Level low high c h old new b → b < nodes
-    → (Modulus q × (m ≡ inverse q) × T (areBelow q twists) × (nodes + nodes ≤ length twists))
-    × ((nodes * (2 * h) ≤ length old) × (length old ≤ maxN) × UnderIn (61 * q) old 0 (nodes * (2 * h)))
-    → Node q m nodes h b twists new
+    → LevelAsks q m nodes h twists old → Node q m nodes h b twists new
 node-of {q = q} {nodes = nodes} {h = h} {b = b} {twists = twists} {old = old} s more ((modulus, is, below, twisted), (room, most, under)) =
     let end = node-room h b nodes more in
     record {

@@ -6,7 +6,11 @@ use Prim.Native.Nat.{ℕ, _+_, _*_, _/_, _<_, _≤_}
 use native.Mathlib.Nat.{add-mul, mul-assoc, mul-comm, mul-one, one-mul, mul-div-cancel, mul-le-mul-left, mul-le-mul-right}
 use native.Mathlib.Omega.{arith}
 use lib.ListN.{length, getD}
+use Rattle.parameters.specs.Limits.{maxN}
+use Rattle.split_tables.specs.Split.{PowerOfTwo}
+use Rattle.split.specs.Fold.{inverse}
 use Rattle.split.specs.Levels.{UnderIn, Level, Tree, Cut, CutFurther, Joined, JoinedFurther, rootOf, cutLow, cutHigh, joinLow, joinHigh}
+use Rattle.split.proofs.LevelLaws.{LevelAsks}
 use Rattle.split.proofs.TreeBounds.{nodes-size, twist-below, half-some}
 use Rattle.split.proofs.PairValues.{cut-grows, join-high-below}
 use Rattle.split.proofs.Heights.{Height, height-first, first-up, down-up, height-last, height-down, height-up}
@@ -20,6 +24,24 @@ under-weaker le under = record { each = λ k l. omega (arith, under .each k l) }
 
 pub under-shorter : {a m n : ℕ} {x : List ℕ} → m ≤ n → UnderIn a x 0 n → UnderIn a x 0 m
 under-shorter le under = record { each = λ k l. under .each k (omega arith) }
+
+-- ---- a level of so many nodes, of two halves each: what it asks, and that half a block is no longer than all
+module _ {q start : ℕ} {twists : List ℕ} (tree : Tree q start twists) (l nodes half : ℕ) (halves : nodes * (2 * half) ≡ length twists)
+    (two : PowerOfTwo half) (x : List ℕ) (room : length x ≡ length twists * l) where
+  level-size : nodes * (2 * (half * l)) ≡ length x
+  level-size = nodes-size nodes half l (length twists) halves ∙ sym room
+
+  level-asks : {m : ℕ} → m ≡ inverse q → length x ≤ maxN → UnderIn (61 * q) x 0 (length x) → 0 < nodes
+      → LevelAsks q m nodes (half * l) twists x × (half * l ≤ length x)
+  level-asks is most under some =
+      let pair : nodes * 2 ≤ nodes * (2 * half) = mul-le-mul-left nodes (omega (arith, half-some two)) in
+      let once = mul-le-mul-right {m = 1} {n = nodes} (2 * (half * l)) some in (
+        (
+          (tree .modulus, is, tree .twisted .below, omega (arith, pair, halves)),
+          (omega (arith, level-size), most, under-shorter (omega (arith, level-size)) under),
+        ),
+        omega (arith, once, level-size, one-mul (2 * (half * l))),
+      )
 
 -- ---- downwards
 pub record CutTo (q start l : ℕ) (twists old new : List ℕ) (nodes leaves : ℕ) : Type 0 where
@@ -41,48 +63,36 @@ module _ {q start : ℕ} {twists : List ℕ} (tree : Tree q start twists) (l : �
     halves : nodes * (2 * half) ≡ length twists
     halves = ap (λ (x : ℕ). nodes * x) (two-halves (s .at) more) ∙ s .at .all
 
-    pub cut-size : nodes * (2 * (half * l)) ≡ length new
-    cut-size = nodes-size nodes half l (length twists) halves ∙ sym room ∙ sym (s .size)
+    half-power : PowerOfTwo half
+    half-power = power-of (height-down (s .at) more)
 
-    pub cut-nodes : nodes + nodes ≤ length twists
-    cut-nodes =
-        let some = half-some (power-of (height-down (s .at) more)) in
-        let pair : nodes * 2 ≤ nodes * (2 * half) = mul-le-mul-left nodes (omega (arith, some)) in
-        omega (arith, pair, halves)
+    cut-bound : (3 + 3 * s .at .up) * q ≤ 15 * q
+    cut-bound = mul-le-mul-right q (omega (arith, s .at .shallow))
 
-    -- a half of a block is no longer than all blocks
-    pub cut-block-size : half * l ≤ length new
-    cut-block-size =
-        let some = nodes-some (s .at) (start-some tree) in
-        let once = mul-le-mul-right {m = 1} {n = nodes} (2 * (half * l)) some in
-        omega (arith, once, cut-size, one-mul (2 * (half * l)))
+    cut-under : UnderIn (61 * q) new 0 (length new)
+    cut-under = under-weaker (omega (arith, cut-bound)) (s .under)
 
-    bound : (3 + 3 * s .at .up) * q ≤ 15 * q
-    bound = mul-le-mul-right q (omega (arith, s .at .shallow))
-
-    pub cut-under : UnderIn (61 * q) new 0 (nodes * (2 * (half * l)))
-    cut-under = record { each = λ k h. omega (arith, bound, s .under .each k (omega (arith, cut-size))) }
+    pub cut-asks : {m : ℕ} → m ≡ inverse q → length old ≤ maxN → LevelAsks q m nodes (half * l) twists new × (half * l ≤ length new)
+    cut-asks is most = level-asks tree l nodes half halves half-power new (s .size ∙ room) is (omega (arith, s .size)) cut-under (nodes-some (s .at) (start-some tree))
 
     pub cut-next : {next : List ℕ} → Level (cutLow q) (cutHigh q) (λ (b : ℕ). getD twists (nodes + b) 0) (half * l) new next nodes
         → CutTo q start l twists old next (nodes + nodes) half
-    cut-next {next} level =
-        let two = power-of (height-down (s .at) more) in
-        let all61 : UnderIn (61 * q) new 0 (length twists * l) =
-        record { each = λ k h. cut-under .each k (omega (arith, nodes-size nodes half l (length twists) halves)) } in
+    cut-next level =
+        let size = level-size tree l nodes half halves half-power new (s .size ∙ room) in
         let grown : (3 + 3 * s .at .up) * q + 3 * q ≡ (3 + 3 * height-down (s .at) more .up) * q =
         sym (add-mul (3 + 3 * s .at .up) 3 q) ∙ ap (λ (x : ℕ). x * q) (omega (arith, down-up (s .at) more)) in
         let larger = level-under {old-bound = (3 + 3 * s .at .up) * q} {new-bound = (3 + 3 * s .at .up) * q + 3 * q} level
-        (record { each = λ k h. s .under .each k (omega (arith, cut-size)) })
+        (under-shorter (omega (arith, size)) (s .under))
         (λ b x y hb hx hy.
-        cut-grows (tree .modulus) (getD twists (nodes + b) 0) x y (twist-below tree nodes half halves two b hb) (omega (arith, bound)) (omega
-        (arith, bound)) hx) in
+        cut-grows (tree .modulus) (getD twists (nodes + b) 0) x y (twist-below tree nodes half halves half-power b hb) (omega (arith, cut-bound)) (omega
+        (arith, cut-bound)) hx) in
         record {
           at = height-down (s .at) more;
           size = level .size ∙ s .size;
-          under = record { each = λ k h. omega (arith, grown, larger .each k (omega (arith, cut-size, level .size))) };
+          under = under-weaker (omega (arith, grown)) (under-shorter (omega (arith, size, level .size)) larger);
           cut = record {
             each = λ u c.
-                level-cuts tree l nodes half halves two all61 level .each u
+                level-cuts tree l nodes half halves half-power (under-shorter (omega (arith, s .size, room)) cut-under) level .each u
                 (subst (Cut q l (rootOf q twists) u new nodes) (sym (two-halves (s .at) more)) (s .cut .each u c));
           };
         }
@@ -107,56 +117,43 @@ module _ {q start : ℕ} {twists : List ℕ} (tree : Tree q start twists) (l : �
     doubles =
         sym (mul-assoc pairs 2 leaves) ∙ ap (λ (x : ℕ). x * leaves) (omega (arith, two-pairs (s .at) more)) ∙ s .at .all
 
-    pub join-size : pairs * (2 * (leaves * l)) ≡ length new
-    join-size = nodes-size pairs leaves l (length twists) doubles ∙ sym room ∙ sym (s .size)
-
-    pub join-nodes : pairs + pairs ≤ length twists
-    join-nodes =
-        let some = half-some (power-of (s .at)) in
-        let once : nodes * 1 ≤ nodes * leaves = mul-le-mul-left nodes some in
-        omega (arith, two-pairs (s .at) more, once, s .at .all, mul-one nodes)
-
-    pub join-block-size : leaves * l ≤ length new
-    join-block-size =
-        let some = nodes-some (height-up (s .at) more) (start-some tree) in
-        let once = mul-le-mul-right {m = 1} {n = pairs} (2 * (leaves * l)) some in
-        omega (arith, once, join-size, one-mul (2 * (leaves * l)))
-
-    pub join-bound : 3 * leaves * q ≤ 48 * q
+    join-bound : 3 * leaves * q ≤ 48 * q
     join-bound = mul-le-mul-right q (omega (arith, leaves-few (s .at)))
 
-    pub join-under : UnderIn (61 * q) new 0 (pairs * (2 * (leaves * l)))
-    join-under = record { each = λ k h. omega (arith, join-bound, s .under .each k (omega (arith, join-size))) }
+    join-under : UnderIn (61 * q) new 0 (length new)
+    join-under = under-weaker (omega (arith, join-bound)) (s .under)
+
+    pub join-asks : {m : ℕ} → m ≡ inverse q → length old ≤ maxN → LevelAsks q m pairs (leaves * l) twists new × (leaves * l ≤ length new)
+    join-asks is most =
+        level-asks tree l pairs leaves doubles (power-of (s .at)) new (s .size ∙ room) is (omega (arith, s .size)) join-under (nodes-some (height-up (s .at) more) (start-some tree))
 
     pub join-next : {next : List ℕ} → Level (joinLow q) (joinHigh q) (λ (b : ℕ). getD twists (pairs + b) 0) (leaves * l) new next pairs
         → JoinTo q start l twists old next pairs (leaves + leaves)
     join-next {next} level =
-        let two = power-of (s .at) in
-        let all61 : UnderIn (61 * q) new 0 (length twists * l) =
-        record { each = λ k h. join-under .each k (omega (arith, nodes-size pairs leaves l (length twists) doubles)) } in
-        let some : 1 ≤ leaves = half-some two in
+        let size = level-size tree l pairs leaves doubles (power-of (s .at)) new (s .size ∙ room) in
+        let some : 1 ≤ leaves = half-some (power-of (s .at)) in
         let least : 3 * q ≤ 3 * leaves * q = mul-le-mul-right q (omega (arith, some)) in
         let twice : 3 * leaves * q + 3 * leaves * q ≡ 3 * (leaves + leaves) * q = sym (add-mul (3 * leaves) (3 * leaves) q) ∙ ap (λ (x : ℕ). x * q)
         (omega arith) in
         let larger = level-under {old-bound = 3 * leaves * q} {new-bound = 3 * leaves * q + 3 * leaves * q} level
-        (record { each = λ k h. s .under .each k (omega (arith, join-size)) })
+        (under-shorter (omega (arith, size)) (s .under))
         (λ b x y hb hx hy. (
           omega arith,
           omega (
             arith,
             least,
-            join-high-below (tree .modulus) (getD twists (pairs + b) 0) x y (twist-below tree pairs leaves doubles two b hb)
+            join-high-below (tree .modulus) (getD twists (pairs + b) 0) x y (twist-below tree pairs leaves doubles (power-of (s .at)) b hb)
                 (omega (arith, join-bound)) (omega (arith, join-bound)),
           ),
         )) in
         record {
           at = height-up (s .at) more;
           size = level .size ∙ s .size;
-          under = record { each = λ k h. omega (arith, twice, larger .each k (omega (arith, join-size, level .size))) };
+          under = under-weaker (omega (arith, twice)) (under-shorter (omega (arith, size, level .size)) larger);
           joined = record {
             each = λ y c.
                 subst (Joined q l (rootOf q twists) y next pairs) (omega arith)
-                (level-joins tree l pairs leaves doubles two all61 level .each y
+                (level-joins tree l pairs leaves doubles (power-of (s .at)) (under-shorter (omega (arith, s .size, room)) join-under) level .each y
                 (subst (λ (n : ℕ). Joined q l (rootOf q twists) y new n leaves) (sym (two-pairs (s .at) more)) (s .joined .each y c)));
           };
         }

@@ -16,7 +16,7 @@ move : (a f w : ℤ) → a +ℤ f ≡ w → a ≡ negℤ f +ℤ w
 move a f w h = simp (sym h, ring)
 
 -- a multiple of q less n is -n
-pub less-multiple : (q k n : ℕ) → n ≤ k * q → Cong q (pos (k * q - n)) (negℤ (pos n))
+less-multiple : (q k n : ℕ) → n ≤ k * q → Cong q (pos (k * q - n)) (negℤ (pos n))
 less-multiple q k n h =
     let whole : k * q - n + n ≡ q * k = omega (arith, mul-comm k q) in
     record { times = pos k; is = move (pos (k * q - n)) (pos n) (pos q *ℤ pos k) (ap pos whole) }

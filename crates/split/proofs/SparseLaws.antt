@@ -11,14 +11,17 @@ use native.Mathlib.Omega.{arith}
 use borrow.Author.Tests.{ltb-true, ltb-false}
 use lib.Dec.{T, leb, le→leb}
 use lib.IntN.{ℤ, pos, negsuc, _+ℤ_, _*ℤ_, natAbs}
-use lib.Signed.{ltZ}
+use lib.Signed.{mag, ltZ}
 use lib.ListN.{length, getD, take, drop, set, replicate, length-set, length-map, length-take, length-replicate, getD-replicate, take-append-drop, List·getD-map}
 use lib.Seq.{take-all, getD-take, getD-drop}
+use mir.Syntax.{w32}
+use mir.Val.{toZ, ofZ, hbits}
 use Rattle.algebra.specs.All.{areBelow}
 use Rattle.algebra.specs.Integer.{within}
 use Rattle.algebra.proofs.Absolute.{abs-add, abs-mul}
 use Rattle.algebra.proofs.All.{all-from, all-append, all-drop, below-at}
 use Rattle.algebra.proofs.Remainder.{round-once}
+use Rattle.algebra.proofs.Signed.{reread, read-same}
 use Rattle.algebra.proofs.Test.{and-left, true-holds, lt-or-le}
 use Rattle.parameters.specs.Limits.{maxN}
 use Rattle.polynomial.specs.Polynomial.{coefficient, add, scale, ternary}
@@ -69,10 +72,10 @@ module _ {a : ℤ} {z : List ℤ} {row : List ℕ} where
 
   module _ {l : List ℤ} {i : ℕ} (s : Added a z row l i) where
     -- what a turn reads is as it was
-    pub added-kept : i < length row → coefficient l i ≡ coefficient z i
+    added-kept : i < length row → coefficient l i ≡ coefficient z i
     added-kept h = ap (λ (u : List ℤ). coefficient u i) (s .value) ∙ added-first a z (map pos row) i (omega (arith, s .whole))
 
-    pub added-more : {x : ℤ} → i < length row → x ≡ coefficient l i +ℤ a *ℤ pos (getD row i 0) → Added a z row (set l i x) (i + 1)
+    added-more : {x : ℤ} → i < length row → x ≡ coefficient l i +ℤ a *ℤ pos (getD row i 0) → Added a z row (set l i x) (i + 1)
     added-more {x} h e =
         let read = e ∙ ap₂ (λ (y r : ℤ). y +ℤ a *ℤ r) (added-kept h) (sym (List·getD-map pos row i 0)) in
         let inside : i < length z = omega (arith, s .whole) in
@@ -83,6 +86,17 @@ module _ {a : ℤ} {z : List ℤ} {row : List ℕ} where
           value = ap₂ (λ (u : List ℤ) (y : ℤ). set u i y) (s .value) read ∙ added-suc a z (map pos row) i inside (omega (arith, length-map row pos))
               ∙ ap (λ (k : ℕ). add z (scale a (take k (map pos row)))) (sym (add-one i));
         }
+
+    -- the number of a turn, read as the machine has it: what the turn asks of it and of the row's, and the sum that it writes back
+    module _ (more : i < length row) (given : mag (coefficient l i) < 2 ^ hbits w32) where
+      pub added-asks : T (within (maxN * 2 ^ 20) z) → T (areBelow (2 ^ 20) row)
+          → (natAbs (toZ w32 (ofZ w32 (coefficient l i))) ≤ maxN * 2 ^ 20) × (getD row i 0 < 2 ^ 20)
+      added-asks small low =
+          (rw (read-same w32 l i given, added-kept more) (within-coefficient (maxN * 2 ^ 20) z i small), below-at (2 ^ 20) row low i more)
+
+      pub added-turn : {x : ℤ} → mag x < 2 ^ hbits w32 → x ≡ toZ w32 (ofZ w32 (coefficient l i)) +ℤ a *ℤ pos (getD row i 0)
+          → Added a z row (set l i (toZ w32 (ofZ w32 x))) (i + 1)
+      added-turn {x} fits e = added-more more (reread w32 x fits ∙ e ∙ ap (λ (y : ℤ). y +ℤ a *ℤ pos (getD row i 0)) (read-same w32 l i given))
 
     pub added-all : length row ≤ i → l ≡ add z (scale a (map pos row))
     added-all h = s .value ∙ ap (λ (u : List ℤ). add z (scale a u)) (take-all i (map pos row) (omega (arith, length-map row pos)))

@@ -1,9 +1,12 @@
 -- `cut_levels` meets its contract: a level a turn.
 -- Assumes nothing.
+use Prim.Native.Nat.{_*_, _/_, _≤_}
 use native.Mathlib.Nat.{div-lt-self}
 use native.Mathlib.Omega.{arith}
+use lib.ListN.{length}
 use Rattle.split.proofs.Heights.{start-some}
-use Rattle.split.proofs.LevelLoops.{CutTo, cut-first, cut-size, cut-nodes, cut-block-size, cut-under, cut-next, cut-done}
+use Rattle.split.proofs.LevelLaws.{LevelAsks}
+use Rattle.split.proofs.LevelLoops.{CutTo, cut-first, cut-asks, cut-next, cut-done}
 use Rattle.split.proofs.levels.cut_levels.Statement.{statement}
 use Rattle.split.proofs.levels.cut_levels.Tie as tie
 
@@ -13,16 +16,14 @@ Inv-loop x₀ twists start l q m nodes₀ leaves₀ x nodes leaves = CutTo q sta
 abbrev μ-loop : tie.MeasureT-loop
 μ-loop x₀ twists start l q m nodes₀ leaves₀ x nodes leaves = leaves
 
-cut-requires : tie.Need-cut-requires Inv-loop μ-loop
-cut-requires c κs =
-    let s = c .before .before .before .before .before in
-    let l = c .before .before .loop in
-    let tree = s .pre .0 .0 in
-    let more = c .before .loop-test .taken in
-    let size = cut-size tree (s .args .l) (l .inv) more (s .pre .1 .0) in (
-      (tree .modulus, s .pre .0 .1, tree .twisted .below, cut-nodes tree (s .args .l) (l .inv) more (s .pre .1 .0)),
-      (omega (arith, size), omega (arith, l .inv .size, s .pre .1 .1), cut-under tree (s .args .l) (l .inv) more (s .pre .1 .0)),
-    )
+-- what the level of a turn asks
+asks : (c : tie.In-loop Inv-loop μ-loop)
+    → (let a = c .before .before .before .before .args in
+    let l = c .before .loop in
+    LevelAsks (a .q) (a .m) (l .nodes) (l .leaves / 2 * a .l) (a .twists .now) (l .x) × (l .leaves / 2 * a .l ≤ length (l .x)))
+asks c =
+    let s = c .before .before .before .before in
+    cut-asks (s .pre .0 .0) (s .args .l) (c .before .loop .inv) (c .loop-test .taken) (s .pre .1 .0) (s .pre .0 .1) (s .pre .1 .1)
 
 pub cut-levels-spec : {M : Type 1} → statement M
 cut-levels-spec =
@@ -30,25 +31,13 @@ cut-levels-spec =
     (tie.spec Inv-loop μ-loop
     (λ c. start-some (c .before .before .pre .0 .0))
     (λ c. let s = c .before .before in cut-first (s .pre .0 .0) (s .args .l) (s .pre .1 .2))
-    (λ c.
-    let s = c .before .before .before .before .before in
-    let l = c .before .before .loop in
-    record {
-      fits = omega (arith, cut-block-size (s .pre .0 .0) (s .args .l) (l .inv) (c .before .loop-test .taken) (s .pre .1 .0), l .inv .size, s .pre .1 .1);
-    })
-    cut-requires
-    (λ c.
-    let s = c .before .before .before .before .before .before .before .before in
-    let l = c .before .before .before .before .before .loop in
-    let few = cut-nodes (s .pre .0 .0) (s .args .l) (l .inv) (c .before .before .before .before .loop-test .taken) (s .pre .1 .0) in
-    record { fits = omega (arith, few, s .pre .0 .0 .few) })
-    (λ c. div-lt-self (omega arith) (omega arith))
+    (λ c. omega (arith, asks (c .before)))
+    (λ c κs. asks (c .before) .0)
+    (λ c. omega (arith, asks (c .before .before .before .before) .0 .0 .3, c .before .before .before .before .before .before .before .before .pre .0 .0 .few))
+    (λ c. div-lt-self (omega (arith, c .before .before .before .before .loop-test .taken)) (omega arith))
     (λ c.
     let s = c .before .before .before .before .before .before .before .before in
     let l = c .before .before .before .before .before .loop in
     cut-next (s .pre .0 .0) (s .args .l) (l .inv) (c .before .before .before .before .loop-test .taken) (s .pre .1 .0) (c .before .before .cut .ensures))
     (λ c. c .before .loop .inv .size)
-    (λ c.
-    let l = c .before .loop in
-    let done = cut-done (l .inv) (omega arith) in
-    (l .inv .size, done)))
+    (λ c. (c .before .loop .inv .size, cut-done (c .before .loop .inv) (c .loop-test .left))))
