@@ -3,6 +3,7 @@
 use mathlib.Core.Path.{_≡_, refl}
 use mathlib.Core.List.{map}
 use Prim.Native.Nat.{ℕ, _+_, _-_, _^_, _<_, _≤_}
+use native.Mathlib.Nat.{add-assoc}
 use native.Mathlib.Omega.{arith}
 use lib.ListN.{length, length-set}
 use lib.Seq.{sets}
@@ -53,9 +54,9 @@ loop-again c =
       simp length-set (l .inv .1),
       four-more f (a .y .now) (a .i) (l .v) (l .inv .2)
           (product-is (a .q) (a .x .now) (a .i) (a .rows .now) (a .j) (a .l) (l .v) (c .before .before .before .fold .ensures .0) (is .0) refl)
-          (product-is (a .q) (a .x .now) (a .i) (a .rows .now) (a .j) (a .l) (l .v + 1) (c .before .before .fold2 .ensures .0) (is .1) (omega arith))
-          (product-is (a .q) (a .x .now) (a .i) (a .rows .now) (a .j) (a .l) (l .v + 2) (c .before .fold3 .ensures .0) (is .2) (omega arith))
-          (product-is (a .q) (a .x .now) (a .i) (a .rows .now) (a .j) (a .l) (l .v + 3) (c .fold4 .ensures .0) (is .3) (omega arith)),
+          (product-is (a .q) (a .x .now) (a .i) (a .rows .now) (a .j) (a .l) (l .v + 1) (c .before .before .fold2 .ensures .0) (is .1) (add-assoc (a .j) (l .v) 1))
+          (product-is (a .q) (a .x .now) (a .i) (a .rows .now) (a .j) (a .l) (l .v + 2) (c .before .fold3 .ensures .0) (is .2) (add-assoc (a .j) (l .v) 2))
+          (product-is (a .q) (a .x .now) (a .i) (a .rows .now) (a .j) (a .l) (l .v + 3) (c .fold4 .ensures .0) (is .3) (add-assoc (a .j) (l .v) 3)),
     )
 
 pub fill-by-four-spec : {M : Type 1} → statement M

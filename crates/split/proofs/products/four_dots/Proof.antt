@@ -2,6 +2,7 @@
 -- Assumes nothing.
 use mathlib.Core.Path.{_≡_, refl, ap}
 use Prim.Native.Nat.{ℕ, _+_, _-_, _*_, _^_, _<_, _≤_}
+use native.Mathlib.Nat.{add-right-comm}
 use native.Mathlib.Omega.{arith}
 use lib.ListN.{length, getD}
 use borrow.Author.Needs.{needs}
@@ -35,14 +36,15 @@ asks : (c : tie.After-wide2 Inv-loop μ-loop) (at : ℕ)
     × (at + 1 < length (c .before .before .before .before .before .before .before .before .args .b .now))
     × (length (c .before .before .before .before .before .before .before .before .args .b .now) ≤ 2 * maxN)
 asks c at l =
-    let p = c .before .before .before .before .before .before .before .before .pre in
+    let under = c .before .before .before .before .before .before .before .before .pre .0 .0 in
     let a = c .before .before .before .before .before .before .before .before .args in
     let x = c .before .before .before .before .before .loop .x in
+    let more = inside (c .before .before .before .before) in
     let next : a .i + (x + 1) ≡ a .i + x + 1 = omega arith in (
-      omega (arith, c .before .before .wide .ensures .0, p .0 .0 .each x (omega arith)),
-      omega (arith, c .wide2 .ensures .0, p .0 .0 .each (x + 1) (omega arith), ap (λ (y : ℕ). getD (a .a .now) y 0) next),
-      omega (arith, p .1),
-      p .1 .2,
+      omega (arith, c .before .before .wide .ensures .0, under .each x (omega (arith, more .0))),
+      omega (arith, c .wide2 .ensures .0, under .each (x + 1) (omega (arith, more .0)), ap (λ (y : ℕ). getD (a .a .now) y 0) next),
+      omega (arith, l, more .3),
+      more .4,
     )
 
 -- a sum of numbers of b from place k on has room for two products more
@@ -54,8 +56,8 @@ room c s p k is l small =
     let start = c .before .before .before .before .before .before .before .before .before in
     let x = c .before .before .before .before .before .before .loop .x in
     let a = start .args in
-    let below = summed-room (a .a .now) (a .i) (a .b .now) k x is (a .n) (omega arith) (omega (arith, start .pre .0)) (start .pre .0 .0) (start .pre .1 .0)
-    (omega (arith, start .pre .1)) in
+    let below = summed-room (a .a .now) (a .i) (a .b .now) k x is (a .n) (omega (arith, inside (c .before .before .before .before .before) .0))
+    (omega (arith, start .pre .0 .1, start .pre .0 .2)) (start .pre .0 .0) (start .pre .1 .0) (omega (arith, l, start .pre .1 .1)) in
     omega (arith, below)
 
 loop-again : tie.Need-loop-again Inv-loop μ-loop
@@ -66,9 +68,9 @@ loop-again c =
     let g = c .before .before .before .before .wide2 .ensures .0 in (
       inside (c .before .before .before .before .before .before .before .before) .0,
       summed-two (a .a .now) (a .i) (a .b .now) (a .j) (l .x) (l .inv .1) f g (c .before .before .before .two-products .ensures .0) refl,
-      summed-two (a .a .now) (a .i) (a .b .now) (a .j + 1) (l .x) (l .inv .2) f g (c .before .before .two-products2 .ensures .0) (omega arith),
-      summed-two (a .a .now) (a .i) (a .b .now) (a .j + 2) (l .x) (l .inv .3) f g (c .before .two-products3 .ensures .0) (omega arith),
-      summed-two (a .a .now) (a .i) (a .b .now) (a .j + 3) (l .x) (l .inv .4) f g (c .two-products4 .ensures .0) (omega arith),
+      summed-two (a .a .now) (a .i) (a .b .now) (a .j + 1) (l .x) (l .inv .2) f g (c .before .before .two-products2 .ensures .0) (add-right-comm (a .j) (l .x) 1),
+      summed-two (a .a .now) (a .i) (a .b .now) (a .j + 2) (l .x) (l .inv .3) f g (c .before .two-products3 .ensures .0) (add-right-comm (a .j) (l .x) 2),
+      summed-two (a .a .now) (a .i) (a .b .now) (a .j + 3) (l .x) (l .inv .4) f g (c .two-products4 .ensures .0) (add-right-comm (a .j) (l .x) 3),
     )
 
 pub four-dots-spec : {M : Type 1} → statement M

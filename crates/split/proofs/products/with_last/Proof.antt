@@ -1,13 +1,25 @@
 -- `with_last` meets its contract: the sums have one product more, or are whole.
 -- Assumes nothing.
-use mathlib.Core.Path.{_≡_, ap, _∙_}
-use Prim.Native.Nat.{ℕ, _+_, _^_, _<_, _≤_}
+use mathlib.Core.Path.{_≡_, refl, ap, _∙_}
+use Prim.Native.Nat.{ℕ, _+_, _*_, _^_, _<_, _≤_}
+use native.Mathlib.Nat.{add-right-comm}
 use native.Mathlib.Omega.{arith}
 use lib.ListN.{length}
 use borrow.Author.Needs.{needs}
+use Rattle.parameters.specs.Limits.{maxN}
 use Rattle.split.proofs.ProductLaws.{total, summed-room, summed-more}
 use Rattle.split.proofs.products.with_last.Statement.{statement}
 use Rattle.split.proofs.products.with_last.Tie as tie
+
+-- the numbers that are read
+inside : (c : tie.Then1)
+    → (let a = c .before .before .before .args in
+    (a .x < a .n) × (a .i + a .x < length (a .a .now)) × (length (a .a .now) ≤ maxN) × (a .j + a .x + 3 < length (a .b .now))
+    × (length (a .b .now) ≤ 2 * maxN))
+inside c =
+    let p = c .before .before .before .pre in
+    let more = c .if1 .taken in
+    (more, omega (arith, more, p .0 .1), p .0 .2, omega (arith, more, p .1 .0 .1), p .1 .0 .2)
 
 -- what a call of `plus_product` asks, for the sum of numbers of b from place k on
 asks : (c : tie.After-wide) (s k at : ℕ) → (let a = c .before .before .before .before .before .args in s ≡ total (a .a .now) (a .i) (a .b .now) k (a .x))
@@ -16,8 +28,10 @@ asks : (c : tie.After-wide) (s k at : ℕ) → (let a = c .before .before .befor
 asks c s k at is l e =
     let p = c .before .before .before .before .before .pre in
     let a = c .before .before .before .before .before .args in
-    let room = summed-room (a .a .now) (a .i) (a .b .now) k (a .x) is (a .n) (p .1 .1 .0) (omega (arith, p .0)) (p .0 .0) (p .1 .0 .0) (omega (arith, p .1)) in
-    (omega (arith, room), omega (arith, c .wide .ensures .0, p .0 .0 .each (a .x) (omega arith)), omega (arith, p .1 .0))
+    let room = summed-room (a .a .now) (a .i) (a .b .now) k (a .x) is (a .n) (p .1 .1 .0) (omega (arith, p .0 .1, p .0 .2)) (p .0 .0) (p .1 .0 .0)
+    (omega (arith, l, p .1 .0 .1)) in
+    let more = inside (c .before .before) in
+    (omega (arith, room), omega (arith, c .wide .ensures .0, p .0 .0 .each (a .x) (more .0)), omega (arith, l, e, more .3))
 
 returns : tie.Need-returns
 returns c =
@@ -26,10 +40,10 @@ returns c =
     let is = s .pre .1 .1 in
     let factor = c .before .before .before .before .wide .ensures .0 in
     let next : a .x + 1 ≡ a .n = omega (arith, is .0, is .1) in (
-      summed-more (a .a .now) (a .i) (a .b .now) (a .j) (a .x) (is .2) factor (c .before .before .before .plus-product .ensures) (omega arith) next,
-      summed-more (a .a .now) (a .i) (a .b .now) (a .j + 1) (a .x) (is .3) factor (c .before .before .plus-product2 .ensures) (omega arith) next,
-      summed-more (a .a .now) (a .i) (a .b .now) (a .j + 2) (a .x) (is .4) factor (c .before .plus-product3 .ensures) (omega arith) next,
-      summed-more (a .a .now) (a .i) (a .b .now) (a .j + 3) (a .x) (is .5) factor (c .plus-product4 .ensures) (omega arith) next,
+      summed-more (a .a .now) (a .i) (a .b .now) (a .j) (a .x) (is .2) factor (c .before .before .before .plus-product .ensures) refl next,
+      summed-more (a .a .now) (a .i) (a .b .now) (a .j + 1) (a .x) (is .3) factor (c .before .before .plus-product2 .ensures) (add-right-comm (a .j) (a .x) 1) next,
+      summed-more (a .a .now) (a .i) (a .b .now) (a .j + 2) (a .x) (is .4) factor (c .before .plus-product3 .ensures) (add-right-comm (a .j) (a .x) 2) next,
+      summed-more (a .a .now) (a .i) (a .b .now) (a .j + 3) (a .x) (is .5) factor (c .plus-product4 .ensures) (add-right-comm (a .j) (a .x) 3) next,
     )
 
 returns-2 : tie.Need-returns-2
@@ -44,16 +58,17 @@ returns-2 c =
 pub with-last-spec : {M : Type 1} → statement M
 with-last-spec =
     tie.close
-    (tie.spec (λ c. search needs) (λ c. search needs) (λ c. search needs) (λ c κs. search needs)
-    (λ c. search needs)
+    (tie.spec (λ c. omega (arith, inside c)) (λ c. omega (arith, inside c)) (λ c. omega (arith, inside (c .before)))
+    (λ c κs. search needs)
+    (λ c. omega (arith, inside (c .before .before)))
     (λ c κs. let s = c .before .before .before .before .before in asks c _ (s .args .j) _ (s .pre .1 .1 .2) (omega arith) (omega arith))
-    (λ c. search needs) (λ c. search needs)
+    (λ c. omega (arith, inside (c .before .before .before))) (λ c. omega (arith, inside (c .before .before .before)))
     (λ c κs. let s = c .before .before .before .before .before .before in asks (c .before) _ (s .args .j + 1) _ (s .pre .1 .1 .3) (omega arith) (omega arith))
-    (λ c. search needs) (λ c. search needs)
+    (λ c. omega (arith, inside (c .before .before .before .before))) (λ c. omega (arith, inside (c .before .before .before .before)))
     (λ c κs.
     let s = c .before .before .before .before .before .before .before in
     asks (c .before .before) _ (s .args .j + 2) _ (s .pre .1 .1 .4) (omega arith) (omega arith))
-    (λ c. search needs) (λ c. search needs)
+    (λ c. omega (arith, inside (c .before .before .before .before .before))) (λ c. omega (arith, inside (c .before .before .before .before .before)))
     (λ c κs.
     let s = c .before .before .before .before .before .before .before .before in
     asks (c .before .before .before) _ (s .args .j + 3) _ (s .pre .1 .1 .5) (omega arith) (omega arith))
