@@ -13,6 +13,7 @@ use Rattle.algebra.proofs.All.{below-at}
 use Rattle.algebra.proofs.Test.{lt-or-le}
 use Rattle.transform.specs.Convolution.{entry}
 use Rattle.split.specs.Levels.{UnderIn, Tripled, Tree, Cut, CutFurther, Joined, JoinedFurther, Threefold, rootOf}
+use Rattle.split.proofs.LevelLaws.{under-at, under-all}
 use Rattle.split.proofs.TreeBounds.{half-some}
 use Rattle.split.proofs.PairValues.{third-high-below}
 use Rattle.split.proofs.LevelLoops.{under-weaker}
@@ -49,10 +50,7 @@ module _ {q : ℕ} {twists : List ℕ} (tree : Tree q 3 twists) (l : ℕ) {old :
 
   module _ {new : List ℕ} (thirds : Tripled q (getD twists 1 0) (getD twists 2 0) h old new h) where
     old-at : (n : ℕ) → UnderIn (n * q) old 0 (length old) → (k : ℕ) → k < h + h + h → getD old k 0 < n * q
-    old-at n small k m = let at : 0 + k ≡ k = omega arith in omega (arith, ap (λ (i : ℕ). getD old i 0) at, small .each k (omega (arith, thirds-size)))
-
-    old-under : (k : ℕ) → k < h + h + h → getD old k 0 < 61 * q
-    old-under k m = let at : 0 + k ≡ k = omega arith in omega (arith, ap (λ (i : ℕ). getD old i 0) at, thirds-under .each k m)
+    old-at n small k m = under-at small k (omega (arith, thirds-size))
 
     module _ (n : ℕ) (several : 0 < n) (small : UnderIn (n * q) old 0 (length old)) where
       least : 3 * q ≤ 3 * n * q
@@ -86,7 +84,7 @@ module _ {q : ℕ} {twists : List ℕ} (tree : Tree q 3 twists) (l : ℕ) {old :
             least,
             third-high-below (tree .modulus) (getD twists 1 0) (getD twists 2 0) (getD old i 0) (getD old (h + i) 0) (getD old
                 (h + h + i) 0) first-twist second-twist
-                (old-under i (omega arith)) (old-under (h + i) (omega arith)) (old-under (h + h + i) (omega arith)),
+                (under-at thirds-under i (omega arith)) (under-at thirds-under (h + i) (omega arith)) (under-at thirds-under (h + h + i) (omega arith)),
           ))
           (λ (b : h + h ≤ k).
           let i = k - (h + h) in
@@ -98,7 +96,7 @@ module _ {q : ℕ} {twists : List ℕ} (tree : Tree q 3 twists) (l : ℕ) {old :
             least,
             third-high-below (tree .modulus) (getD twists 2 0) (getD twists 1 0) (getD old i 0) (getD old (h + i) 0) (getD old
                 (h + h + i) 0) second-twist first-twist
-                (old-under i (omega arith)) (old-under (h + i) (omega arith)) (old-under (h + h + i) (omega arith)),
+                (under-at thirds-under i (omega arith)) (under-at thirds-under (h + i) (omega arith)) (under-at thirds-under (h + h + i) (omega arith)),
           ))
           (lt-or-le k (h + h)))
           (lt-or-le k h)
@@ -106,11 +104,7 @@ module _ {q : ℕ} {twists : List ℕ} (tree : Tree q 3 twists) (l : ℕ) {old :
     pub thirds-threefold : Threefold q old new
     thirds-threefold =
         record {
-          each = λ n several small. record {
-            each = λ k m.
-                let at : 0 + k ≡ k = omega arith in
-                omega (arith, ap (λ (i : ℕ). getD new i 0) at, one-under n several small k (omega (arith, thirds .size, thirds-size)));
-          };
+          each = λ n several small. under-all (λ k m. one-under n several small k (omega (arith, thirds .size, thirds-size)));
         }
 
     pub thirds-further : CutFurther q l (rootOf q twists) 1 (length twists) old 3 third new

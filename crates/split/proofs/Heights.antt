@@ -11,6 +11,7 @@ use lib.ListN.{length, getD}
 use Rattle.algebra.proofs.Test.{lt-or-le}
 use Rattle.split_tables.specs.Split.{PowerOfTwo}
 use Rattle.split.specs.Levels.{UnderIn, Level, Tree}
+use Rattle.split.proofs.LevelLaws.{under-at, under-all}
 use Rattle.split.proofs.TreeBounds.{div-below, positive-factor}
 
 pub record Height (start k nodes leaves : ℕ) : Type 0 where
@@ -142,9 +143,6 @@ module _ {start k nodes leaves : ℕ} (at : Height start k nodes leaves) (more :
 module _ {low high : ℕ → ℕ → ℕ → ℕ} {c : ℕ → ℕ} {h n old-bound new-bound : ℕ} {old new : List ℕ} (level : Level low high c h old new n)
     (under : UnderIn old-bound old 0 (n * (2 * h)))
     (grows : (b x y : ℕ) → b < n → x < old-bound → y < old-bound → (low (c b) x y < new-bound) × (high (c b) x y < new-bound)) where
-  old-at : (k : ℕ) → k < n * (2 * h) → getD old k 0 < old-bound
-  old-at k l = let at : 0 + k ≡ k = omega arith in omega (arith, ap (λ (i : ℕ). getD old i 0) at, under .each k l)
-
   one-under : (k : ℕ) → k < n * (2 * h) → getD new k 0 < new-bound
   one-under k l =
       let size : 0 < 2 * h = positive-factor k n (2 * h) l in
@@ -156,16 +154,16 @@ module _ {low high : ℕ → ℕ → ℕ → ℕ} {c : ℕ → ℕ} {h n old-bou
       let room : b * (2 * h) + (h + h) ≤ n * (2 * h) = omega (arith, mul-le-mul-right {m = b + 1} {n = n} (2 * h) (omega arith), add-mul b 1 (2 * h)) in
       ⊎-elim
       (λ (first : r < h).
-      let pair = grows b (getD old (b * (2 * h) + r) 0) (getD old (b * (2 * h) + h + r) 0) node (old-at (b * (2 * h) + r) (omega (arith, room)))
-      (old-at (b * (2 * h) + h + r) (omega (arith, room))) in
+      let pair = grows b (getD old (b * (2 * h) + r) 0) (getD old (b * (2 * h) + h + r) 0) node (under-at under (b * (2 * h) + r) (omega (arith, room)))
+      (under-at under (b * (2 * h) + h + r) (omega (arith, room))) in
       omega (arith, pair .0, level .first b r node first, ap (λ (i : ℕ). getD new i 0) whole))
       (λ (second : h ≤ r).
       let i = r - h in
       let here : b * (2 * h) + h + i ≡ k = omega (arith, whole) in
-      let pair = grows b (getD old (b * (2 * h) + i) 0) (getD old (b * (2 * h) + h + i) 0) node (old-at (b * (2 * h) + i) (omega (arith, room)))
-      (old-at (b * (2 * h) + h + i) (omega (arith, room))) in
+      let pair = grows b (getD old (b * (2 * h) + i) 0) (getD old (b * (2 * h) + h + i) 0) node (under-at under (b * (2 * h) + i) (omega (arith, room)))
+      (under-at under (b * (2 * h) + h + i) (omega (arith, room))) in
       omega (arith, pair .1, level .second b i node (omega (arith, inside)), ap (λ (i : ℕ). getD new i 0) here))
       (lt-or-le r h)
 
   pub level-under : UnderIn new-bound new 0 (n * (2 * h))
-  level-under = record { each = λ k l. let at : 0 + k ≡ k = omega arith in omega (arith, ap (λ (i : ℕ). getD new i 0) at, one-under k l) }
+  level-under = under-all one-under

@@ -3,7 +3,7 @@
 use mathlib.Core.Path.{_≡_, refl, sym, ap, ap₂, _∙_, subst}
 use mathlib.Core.List.{List}
 use Prim.Native.Nat.{ℕ, _+_, _*_, _<_, _≤_}
-use native.Mathlib.Nat.{add-mul, mul-le-mul-right}
+use native.Mathlib.Nat.{zero-add, add-mul, mul-le-mul-right}
 use native.Mathlib.Omega.{arith}
 use borrow.Author.Tests.{eqb-true, eqb-false}
 use lib.Dec.{T, eqb}
@@ -15,6 +15,13 @@ use Rattle.algebra.proofs.Test.{by-test}
 use Rattle.parameters.specs.Limits.{maxN}
 use Rattle.split.specs.Fold.{Modulus, inverse}
 use Rattle.split.specs.Levels.{UnderIn, Paired, Level, Tripled, thirdLow, thirdHigh}
+
+-- the numbers of a list from its first on are below b, by their places
+pub under-at : {b n : ℕ} {x : List ℕ} → UnderIn b x 0 n → (k : ℕ) → k < n → getD x k 0 < b
+under-at {b} {n} {x} under k l = subst (λ (i : ℕ). getD x i 0 < b) (zero-add k) (under .each k l)
+
+pub under-all : {b n : ℕ} {x : List ℕ} → ((k : ℕ) → k < n → getD x k 0 < b) → UnderIn b x 0 n
+under-all {b} {n} {x} below = record { each = λ k l. subst (λ (i : ℕ). getD x i 0 < b) (sym (zero-add k)) (below k l) }
 
 -- a list with two of its numbers set, read at a third place
 two-other : (l : List ℕ) (i j a b k : ℕ) → (k ≡ i → ⊥) → (k ≡ j → ⊥) → getD (set (set l i a) j b) k 0 ≡ getD l k 0
@@ -147,7 +154,7 @@ pub record Node (q m nodes h b : ℕ) (twists x : List ℕ) : Type 0 where
 -- no turn before has written the block
 pub node-of : {low high : ℕ → ℕ → ℕ → ℕ} {c : ℕ → ℕ} {q m nodes h b : ℕ} {twists old new : List ℕ} → Level low high c h old new b → b < nodes
     → LevelAsks q m nodes h twists old → Node q m nodes h b twists new
-node-of {q = q} {nodes = nodes} {h = h} {b = b} {twists = twists} {old = old} s more ((modulus, is, below, twisted), (room, most, under)) =
+node-of {q = q} {nodes = nodes} {h = h} {b = b} {twists = twists} s more ((modulus, is, below, twisted), (room, most, under)) =
     let end = node-room h b nodes more in
     record {
       more = more;
@@ -158,14 +165,7 @@ node-of {q = q} {nodes = nodes} {h = h} {b = b} {twists = twists} {old = old} s 
           omega (arith, end, s .size),
           omega (arith, s .size),
           record {
-            each = λ k l.
-                let at : 0 + (b * (2 * h) + k) ≡ b * (2 * h) + k = omega arith in
-                omega (
-                  arith,
-                  s .behind (b * (2 * h) + k) (omega arith),
-                  ap (λ (i : ℕ). getD old i 0) at,
-                  under .each (b * (2 * h) + k) (omega (arith, end)),
-                );
+            each = λ k l. omega (arith, s .behind (b * (2 * h) + k) (omega arith), under-at under (b * (2 * h) + k) (omega (arith, end)));
           },
         ),
       );
@@ -251,14 +251,12 @@ pub record Triple (b h n : ℕ) (x : List ℕ) : Type 0 where
 
 pub triple-of : {q c d h n b : ℕ} {old new : List ℕ} → Tripled q c d h old new n → n < h
     → (h + h + h ≤ length old) × (length old ≤ maxN) × UnderIn b old 0 (h + h + h) → Triple b h n new
-triple-of {h = h} {n = n} {b = b} {old = old} s more (room, most, under) =
-    let below : (k : ℕ) → k < h + h + h → getD old k 0 < b = λ k l. let at : 0 + k ≡ k = omega arith in
-    omega (arith, ap (λ (i : ℕ). getD old i 0) at, under .each k l) in
+triple-of {h = h} {n = n} s more (room, most, under) =
     record {
       more = more;
       place = omega (arith, s .size);
       room = omega (arith, s .size);
-      first = omega (arith, s .rest-first n (omega arith) more, below n (omega arith));
-      second = omega (arith, s .rest-second n (omega arith) more, below (h + n) (omega arith));
-      third = omega (arith, s .rest-third n (omega arith) more, below (h + h + n) (omega arith));
+      first = omega (arith, s .rest-first n (omega arith) more, under-at under n (omega arith));
+      second = omega (arith, s .rest-second n (omega arith) more, under-at under (h + n) (omega arith));
+      third = omega (arith, s .rest-third n (omega arith) more, under-at under (h + h + n) (omega arith));
     }

@@ -28,6 +28,7 @@ use Rattle.split_tables.specs.Split.{width, rowAt}
 use Rattle.split.specs.Fold.{Modulus, folded}
 use Rattle.split.specs.Levels.{UnderIn, Same}
 use Rattle.split.specs.Products.{Products}
+use Rattle.split.proofs.LevelLaws.{under-at, under-all}
 use Rattle.split.proofs.FoldLaws.{folded-below, folded-cong}
 
 -- ---- sums
@@ -175,12 +176,7 @@ block-room l s k h = omega (arith, mul-le-mul-right {m = s + 1} {n = k} l (omega
 
 -- the block and the row of root s
 pub block-under : {c : ℕ} {x : List ℕ} (l s k : ℕ) → UnderIn c x 0 (k * l) → s < k → UnderIn c x (s * l) l
-block-under {x = x} l s k under inside =
-    record {
-      each = λ i h.
-          let at : 0 + (s * l + i) ≡ s * l + i = omega arith in
-          omega (arith, under .each (s * l + i) (omega (arith, block-room l s k inside)), ap (λ (y : ℕ). getD x y 0) at);
-    }
+block-under l s k under inside = record { each = λ i h. under-at under (s * l + i) (omega (arith, block-room l s k inside)) }
 
 pub row-room : (rows : List ℕ) (l s k : ℕ) → length rows ≡ k * width l → s < k → s * width l + l + l ≤ length rows + 1
 row-room rows l s k size inside = omega (arith, size, block-room (width l) s k inside)
@@ -226,18 +222,13 @@ module _ {q k l : ℕ} {x : List ℕ} (rows : List ℕ) (modulus : Modulus q) (f
 
     pub under-more : UnderIn (3 * q) y 0 (s * l) → UnderIn (3 * q) z 0 ((s + 1) * l)
     under-more before =
-        record {
-          each = λ v h. by-test (ltb v (s * l))
-              (λ t.
-              let less = ltb-true v (s * l) t in
-              let at : 0 + v ≡ v = omega arith in
-              omega (arith, before .each v less, stored-before v less, ap (λ (i : ℕ). getD y i 0) at, ap (λ (i : ℕ). getD z i 0) at))
-              (λ t.
-              let more = ltb-false v (s * l) t in
-              let inside : v - s * l < l = omega (arith, add-mul s 1 l) in
-              let at : 0 + v ≡ s * l + (v - s * l) = omega arith in
-              omega (arith, row-below (v - s * l) inside, stored-at (v - s * l) inside, ap (λ (i : ℕ). getD z i 0) at));
-        }
+        under-all (λ v h. by-test (ltb v (s * l))
+        (λ t. let less = ltb-true v (s * l) t in omega (arith, under-at before v less, stored-before v less))
+        (λ t.
+        let more = ltb-false v (s * l) t in
+        let inside : v - s * l < l = omega (arith, add-mul s 1 l) in
+        let at : v ≡ s * l + (v - s * l) = omega arith in
+        omega (arith, row-below (v - s * l) inside, stored-at (v - s * l) inside, ap (λ (i : ℕ). getD z i 0) at)))
 
     pub products-more : Products q s l x rows y → Products q (s + 1) l x rows z
     products-more before =

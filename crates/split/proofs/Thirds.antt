@@ -15,6 +15,7 @@ use Rattle.algebra.proofs.Ring.{*ℤ-idl}
 use Rattle.algebra.proofs.Sum.{sum-cong, sum-same}
 use Rattle.transform.specs.Convolution.{entry}
 use Rattle.split.specs.Levels.{UnderIn, Tripled, Tree, Cut, CutFurther, Joined, JoinedFurther, rootOf}
+use Rattle.split.proofs.LevelLaws.{under-at}
 use Rattle.split.proofs.TreeLaws.{cut-part, join-part, power-cong}
 use Rattle.split.proofs.Twisting.{thirdTwist, third-twisted}
 use Rattle.split.proofs.TreeBounds.{positive, sum-three, div-below}
@@ -48,9 +49,6 @@ module _ {q : ℕ} {twists : List ℕ} (tree : Tree q 3 twists) (third l : ℕ) 
 
   twist-below : (j : ℕ) → 0 < j → j < 3 → getD twists j 0 < q
   twist-below j h l = below-at q twists (tree .twisted .below) j (omega (arith, all))
-
-  old-below : (k : ℕ) → k < h + h + h → getD old k 0 < 61 * q
-  old-below k hk = let at : 0 + k ≡ k = omega arith in omega (arith, ap (λ (x : ℕ). getD old x 0) at, under .each k hk)
 
   square : (x y : ℕ) → x * x % q ≡ y → Cong q (pos (x ^ 2)) (pos y)
   square x y e = cong-trans (cong-eq (ap pos (power-two x))) (cong-trans (cong-residue (positive tree) (pos (x * x))) (cong-eq (ap pos e)))
@@ -117,14 +115,14 @@ module _ {q : ℕ} {twists : List ℕ} (tree : Tree q 3 twists) (third l : ℕ) 
       (cong-trans
       (third-high (tree .modulus) (getD twists 1 0) (getD twists 2 0) (getD old i 0) (getD old (h + i) 0) (getD old (h + h + i) 0)
       (twist-below 1 (omega arith) (omega arith)) (twist-below 2 (omega arith) (omega arith))
-      (old-below i (omega arith)) (old-below (h + i) (omega arith)) (old-below (h + h + i) (omega arith)))
+      (under-at under i (omega arith)) (under-at under (h + i) (omega arith)) (under-at under (h + h + i) (omega arith)))
       (cong-eq (sym (in-places (cell 1) i refl))))
   part-value (suc (suc zero)) i hj hi =
       cong-trans (cong-eq (ap pos (ap (λ (x : ℕ). getD new x 0) (place2 i) ∙ thirds .third i hi)))
       (cong-trans
       (third-high (tree .modulus) (getD twists 2 0) (getD twists 1 0) (getD old i 0) (getD old (h + i) 0) (getD old (h + h + i) 0)
       (twist-below 2 (omega arith) (omega arith)) (twist-below 1 (omega arith) (omega arith))
-      (old-below i (omega arith)) (old-below (h + i) (omega arith)) (old-below (h + h + i) (omega arith)))
+      (under-at under i (omega arith)) (under-at under (h + i) (omega arith)) (under-at under (h + h + i) (omega arith)))
       (cong-eq (sym (in-places (cell 2) i refl))))
   part-value (suc (suc (suc j))) i hj hi = absurd (omega arith)
 

@@ -11,6 +11,7 @@ use Rattle.algebra.specs.Integer.{sum}
 use Rattle.algebra.proofs.All.{below-at}
 use Rattle.split_tables.specs.Split.{PowerOfTwo}
 use Rattle.split.specs.Levels.{UnderIn, Tree}
+use Rattle.split.proofs.LevelLaws.{under-at}
 
 pub sum-two : (f : ℕ → ℤ) → sum f 2 ≡ f 0 +ℤ f 1
 sum-two f = ap (λ (z : ℤ). z +ℤ f 1) (+ℤ-idl (f 0))
@@ -37,9 +38,7 @@ nodes-size nodes half l k all = ap (λ (x : ℕ). nodes * x) (sym (mul-assoc 2 h
 
 pub old-below : {k n : ℕ} {old : List ℕ} (nodes half l : ℕ) → nodes * (2 * half) ≡ n → UnderIn k old 0 (n * l) → (i : ℕ) → i < nodes * (2 * (half * l))
     → getD old i 0 < k
-old-below {k} {n} {old} nodes half l all under i hi =
-    let at : 0 + i ≡ i = omega arith in
-    omega (arith, ap (λ (x : ℕ). getD old x 0) at, under .each i (omega (arith, nodes-size nodes half l n all)))
+old-below {n = n} nodes half l all under i hi = under-at under i (omega (arith, nodes-size nodes half l n all))
 
 -- the quotient of a number below n times m
 pub div-below : (e n m : ℕ) → 0 < m → e < n * m → e / m < n
