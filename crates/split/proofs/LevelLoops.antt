@@ -73,7 +73,8 @@ module _ {q start : ℕ} {twists : List ℕ} (tree : Tree q start twists) (l : �
     cut-under = under-weaker (omega (arith, cut-bound)) (s .under)
 
     pub cut-asks : {m : ℕ} → m ≡ inverse q → length old ≤ maxN → LevelAsks q m nodes (half * l) twists new × (half * l ≤ length new)
-    cut-asks is most = level-asks tree l nodes half halves half-power new (s .size ∙ room) is (omega (arith, s .size)) cut-under (nodes-some (s .at) (start-some tree))
+    cut-asks is most =
+        level-asks tree l nodes half halves half-power new (s .size ∙ room) is (omega (arith, s .size)) cut-under (nodes-some (s .at) (start-some tree))
 
     pub cut-next : {next : List ℕ} → Level (cutLow q) (cutHigh q) (λ (b : ℕ). getD twists (nodes + b) 0) (half * l) new next nodes
         → CutTo q start l twists old next (nodes + nodes) half
@@ -125,7 +126,8 @@ module _ {q start : ℕ} {twists : List ℕ} (tree : Tree q start twists) (l : �
 
     pub join-asks : {m : ℕ} → m ≡ inverse q → length old ≤ maxN → LevelAsks q m pairs (leaves * l) twists new × (leaves * l ≤ length new)
     join-asks is most =
-        level-asks tree l pairs leaves doubles (power-of (s .at)) new (s .size ∙ room) is (omega (arith, s .size)) join-under (nodes-some (height-up (s .at) more) (start-some tree))
+        level-asks tree l pairs leaves doubles (power-of (s .at)) new (s .size ∙ room) is (omega (arith, s .size)) join-under
+        (nodes-some (height-up (s .at) more) (start-some tree))
 
     pub join-next : {next : List ℕ} → Level (joinLow q) (joinHigh q) (λ (b : ℕ). getD twists (pairs + b) 0) (leaves * l) new next pairs
         → JoinTo q start l twists old next pairs (leaves + leaves)

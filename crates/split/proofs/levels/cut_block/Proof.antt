@@ -43,26 +43,19 @@ pub cut-block-spec : {M : Type 1} → statement M
 cut-block-spec =
     tie.close
     (tie.spec Inv-loop μ-loop (λ c. omega (arith, c .before .pre .0 .0 .to)) (λ c. (omega arith, paired-none))
-    (λ c. omega (arith, pair c))
-    (λ c. omega (arith, pair c))
-    (λ c. omega (arith, pair c))
-    (λ c. omega (arith, pair c))
-    (λ c. omega (arith, pair (c .before)))
-    (λ c κs. search needs)
-    (λ c. omega (arith, pair (c .before .before)))
-    (λ c. omega (arith, pair (c .before .before .before)))
-    (λ c κs. search needs)
+    (λ c. omega (arith, pair c)) (λ c. omega (arith, pair c)) (λ c. omega (arith, pair c)) (λ c. omega (arith, pair c)) (λ c. omega (arith, pair (c .before)))
+    (λ c κs. search needs) (λ c. omega (arith, pair (c .before .before))) (λ c. omega (arith, pair (c .before .before .before))) (λ c κs. search needs)
     (λ c. omega (arith, product-small c))
     (λ c κs. let p = c .before .before .before .before .before .before .before .pre .0 in (p .0, p .1, omega (arith, product-small c)))
-    (λ c. omega (arith, pair (c .before .before .before .before .before), c .fold .ensures .1, c .before .before .before .before .before .before .before .before .pre .0 .0 .to))
-    (λ c. omega (arith, pair (c .before .before .before .before .before)))
-    (λ c. omega (arith, pair (c .before .before .before .before .before)))
+    (λ c.
+    let s = c .before .before .before .before .before .before .before .before in
+    omega (arith, pair (c .before .before .before .before .before), c .fold .ensures .1, s .pre .0 .0 .to))
+    (λ c. omega (arith, pair (c .before .before .before .before .before))) (λ c. omega (arith, pair (c .before .before .before .before .before)))
     (λ c. omega (arith, c .fold .ensures .1))
     (λ c. omega (arith, pair (c .before .before .before .before .before), c .before .before .before .before .before .before .before .before .pre .0 .0 .to))
     (λ c. omega (arith, pair (c .before .before .before .before .before)))
     (λ c. simp length-set (omega (arith, pair (c .before .before .before .before .before))))
-    (λ c. omega (arith, pair (c .before .before .before .before .before)))
-    (λ c. omega (arith, pair (c .before .before .before .before .before)))
+    (λ c. omega (arith, pair (c .before .before .before .before .before))) (λ c. omega (arith, pair (c .before .before .before .before .before)))
     loop-again
     (λ c. c .before .loop .inv .1 .size)
     (λ c. paired-all (c .before .loop .inv) (c .loop-test .left)))

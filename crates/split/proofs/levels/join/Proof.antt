@@ -24,14 +24,10 @@ pub join-spec : {M : Type 1} → statement M
 join-spec =
     tie.close
     (tie.spec Inv-loop μ-loop (λ c. (omega arith, level-none))
-    (λ c. omega (arith, node (c .before)))
-    (λ c. omega (arith, node (c .before)))
-    (λ c. omega (arith, node (c .before)))
-    (λ c. search needs)
+    (λ c. omega (arith, node (c .before))) (λ c. omega (arith, node (c .before))) (λ c. omega (arith, node (c .before))) (λ c. search needs)
     (λ c. omega (arith, node (c .before .before)))
     (λ c κs. node (c .before .before) .asks)
-    (λ c. omega (arith, node (c .before .before .before .before .before)))
-    (λ c. omega (arith, node (c .before .before .before .before .before)))
+    (λ c. omega (arith, node (c .before .before .before .before .before))) (λ c. omega (arith, node (c .before .before .before .before .before)))
     (λ c.
     let more = node (c .before .before .before .before .before) .more in
     (omega (arith, more), level-more (c .before .before .before .before .before .before .loop .inv .1) (c .before .before .join-block .ensures)))

@@ -43,27 +43,18 @@ pub take-thirds-spec : {M : Type 1} → statement M
 take-thirds-spec =
     tie.close
     (tie.spec Inv-loop μ-loop (λ c. (omega arith, tripled-none))
-    (λ c. omega (arith, triple c))
-    (λ c. omega (arith, triple c))
-    (λ c. omega (arith, triple c))
-    (λ c. omega (arith, triple c))
-    (λ c. omega (arith, triple (c .before)))
-    (λ c. omega (arith, triple (c .before)))
-    (λ c. omega (arith, triple (c .before .before)))
-    (λ c. omega (arith, triple (c .before .before)))
-    (λ c. omega (arith, triple (c .before .before .before)))
+    (λ c. omega (arith, triple c)) (λ c. omega (arith, triple c)) (λ c. omega (arith, triple c)) (λ c. omega (arith, triple c))
+    (λ c. omega (arith, triple (c .before))) (λ c. omega (arith, triple (c .before))) (λ c. omega (arith, triple (c .before .before)))
+    (λ c. omega (arith, triple (c .before .before))) (λ c. omega (arith, triple (c .before .before .before)))
     (λ c. omega (arith, triple (c .before .before .before), c .before .before .before .before .before .before .pre .0 .0 .to))
     (λ c. omega (arith, triple (c .before .before .before), c .before .before .before .before .before .before .pre .0 .0 .to))
-    (λ c. omega (arith, triple (c .before .before .before)))
-    (λ c. omega (arith, triple (c .before .before .before)))
+    (λ c. omega (arith, triple (c .before .before .before))) (λ c. omega (arith, triple (c .before .before .before)))
     third-part-requires
-    (λ c. omega (arith, triple (c .before .before .before .before)))
-    (λ c. simp length-set (omega (arith, triple (c .before .before .before .before))))
+    (λ c. omega (arith, triple (c .before .before .before .before))) (λ c. simp length-set (omega (arith, triple (c .before .before .before .before))))
     third-part-requires-2
     (λ c. omega (arith, triple (c .before .before .before .before .before)))
     (λ c. simp length-set (omega (arith, triple (c .before .before .before .before .before))))
-    (λ c. omega (arith, triple (c .before .before .before .before .before)))
-    (λ c. omega (arith, triple (c .before .before .before .before .before)))
+    (λ c. omega (arith, triple (c .before .before .before .before .before))) (λ c. omega (arith, triple (c .before .before .before .before .before)))
     loop-again
     (λ c. c .before .loop .inv .1 .size)
     (λ c. tripled-all (c .before .loop .inv) (c .loop-test .left)))

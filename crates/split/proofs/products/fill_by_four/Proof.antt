@@ -49,14 +49,15 @@ loop-again c =
     let a = c .before .before .before .before .before .before .before .before .before .before .args in
     let l = c .before .before .before .before .before .before .loop in
     let is = c .before .before .before .before .four-dots .ensures in
+    let at = add-assoc (a .j) (l .v) in
     let f = product (a .q) (a .x .now) (a .i) (a .rows .now) (a .j) (a .l) in (
       inside (c .before .before .before .before .before) .0,
       simp length-set (l .inv .1),
       four-more f (a .y .now) (a .i) (l .v) (l .inv .2)
           (product-is (a .q) (a .x .now) (a .i) (a .rows .now) (a .j) (a .l) (l .v) (c .before .before .before .fold .ensures .0) (is .0) refl)
-          (product-is (a .q) (a .x .now) (a .i) (a .rows .now) (a .j) (a .l) (l .v + 1) (c .before .before .fold2 .ensures .0) (is .1) (add-assoc (a .j) (l .v) 1))
-          (product-is (a .q) (a .x .now) (a .i) (a .rows .now) (a .j) (a .l) (l .v + 2) (c .before .fold3 .ensures .0) (is .2) (add-assoc (a .j) (l .v) 2))
-          (product-is (a .q) (a .x .now) (a .i) (a .rows .now) (a .j) (a .l) (l .v + 3) (c .fold4 .ensures .0) (is .3) (add-assoc (a .j) (l .v) 3)),
+          (product-is (a .q) (a .x .now) (a .i) (a .rows .now) (a .j) (a .l) (l .v + 1) (c .before .before .fold2 .ensures .0) (is .1) (at 1))
+          (product-is (a .q) (a .x .now) (a .i) (a .rows .now) (a .j) (a .l) (l .v + 2) (c .before .fold3 .ensures .0) (is .2) (at 2))
+          (product-is (a .q) (a .x .now) (a .i) (a .rows .now) (a .j) (a .l) (l .v + 3) (c .fold4 .ensures .0) (is .3) (at 3)),
     )
 
 pub fill-by-four-spec : {M : Type 1} → statement M
@@ -69,28 +70,23 @@ fill-by-four-spec =
     (λ c κs.
     let p = c .before .before .before .before .before .before .pre in
     (p .0 .0, p .0 .1, small c _ _ (c .four-dots .ensures .0) (omega arith)))
-    (λ c. omega (arith, inside (c .before .before)))
-    (λ c. omega (arith, inside (c .before .before)))
+    (λ c. omega (arith, inside (c .before .before))) (λ c. omega (arith, inside (c .before .before)))
     (λ c κs.
     let p = c .before .before .before .before .before .before .before .pre in
     (p .0 .0, p .0 .1, small (c .before) _ _ (c .before .four-dots .ensures .1) (omega arith)))
-    (λ c. omega (arith, inside (c .before .before .before)))
-    (λ c. omega (arith, inside (c .before .before .before)))
+    (λ c. omega (arith, inside (c .before .before .before))) (λ c. omega (arith, inside (c .before .before .before)))
     (λ c. simp length-set (omega (arith, inside (c .before .before .before))))
     (λ c κs.
     let p = c .before .before .before .before .before .before .before .before .pre in
     (p .0 .0, p .0 .1, small (c .before .before) _ _ (c .before .before .four-dots .ensures .2) (omega arith)))
-    (λ c. omega (arith, inside (c .before .before .before .before)))
-    (λ c. omega (arith, inside (c .before .before .before .before)))
+    (λ c. omega (arith, inside (c .before .before .before .before))) (λ c. omega (arith, inside (c .before .before .before .before)))
     (λ c. simp length-set (omega (arith, inside (c .before .before .before .before))))
     (λ c κs.
     let p = c .before .before .before .before .before .before .before .before .before .pre in
     (p .0 .0, p .0 .1, small (c .before .before .before) _ _ (c .before .before .before .four-dots .ensures .3) (omega arith)))
-    (λ c. omega (arith, inside (c .before .before .before .before .before)))
-    (λ c. omega (arith, inside (c .before .before .before .before .before)))
+    (λ c. omega (arith, inside (c .before .before .before .before .before))) (λ c. omega (arith, inside (c .before .before .before .before .before)))
     (λ c. simp length-set (omega (arith, inside (c .before .before .before .before .before))))
-    (λ c. omega (arith, inside (c .before .before .before .before .before)))
-    (λ c. omega (arith, inside (c .before .before .before .before .before)))
+    (λ c. omega (arith, inside (c .before .before .before .before .before))) (λ c. omega (arith, inside (c .before .before .before .before .before)))
     loop-again
     (λ c. c .before .loop .inv .1)
     (λ c. (c .before .loop .inv .0, c .before .loop .inv .2)))

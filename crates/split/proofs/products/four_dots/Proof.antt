@@ -65,12 +65,13 @@ loop-again c =
     let a = c .before .before .before .before .before .before .before .before .before .before .before .before .args in
     let l = c .before .before .before .before .before .before .before .before .before .loop in
     let f = c .before .before .before .before .before .before .wide .ensures .0 in
-    let g = c .before .before .before .before .wide2 .ensures .0 in (
+    let g = c .before .before .before .before .wide2 .ensures .0 in
+    let at = add-right-comm (a .j) (l .x) in (
       inside (c .before .before .before .before .before .before .before .before) .0,
       summed-two (a .a .now) (a .i) (a .b .now) (a .j) (l .x) (l .inv .1) f g (c .before .before .before .two-products .ensures .0) refl,
-      summed-two (a .a .now) (a .i) (a .b .now) (a .j + 1) (l .x) (l .inv .2) f g (c .before .before .two-products2 .ensures .0) (add-right-comm (a .j) (l .x) 1),
-      summed-two (a .a .now) (a .i) (a .b .now) (a .j + 2) (l .x) (l .inv .3) f g (c .before .two-products3 .ensures .0) (add-right-comm (a .j) (l .x) 2),
-      summed-two (a .a .now) (a .i) (a .b .now) (a .j + 3) (l .x) (l .inv .4) f g (c .two-products4 .ensures .0) (add-right-comm (a .j) (l .x) 3),
+      summed-two (a .a .now) (a .i) (a .b .now) (a .j + 1) (l .x) (l .inv .2) f g (c .before .before .two-products2 .ensures .0) (at 1),
+      summed-two (a .a .now) (a .i) (a .b .now) (a .j + 2) (l .x) (l .inv .3) f g (c .before .two-products3 .ensures .0) (at 2),
+      summed-two (a .a .now) (a .i) (a .b .now) (a .j + 3) (l .x) (l .inv .4) f g (c .two-products4 .ensures .0) (at 3),
     )
 
 pub four-dots-spec : {M : Type 1} → statement M
@@ -82,8 +83,7 @@ four-dots-spec =
     (omega arith, none (a .j), none (a .j + 1), none (a .j + 2), none (a .j + 3)))
     (λ c. search needs) (λ c. omega (arith, inside c)) (λ c. omega (arith, inside c)) (λ c. omega (arith, inside (c .before))) (λ c κs. search needs)
     (λ c. omega (arith, inside (c .before .before))) (λ c. omega (arith, inside (c .before .before))) (λ c. omega (arith, inside (c .before .before)))
-    (λ c. omega (arith, inside (c .before .before .before))) (λ c κs. search needs)
-    (λ c. omega (arith, inside (c .before .before .before .before)))
+    (λ c. omega (arith, inside (c .before .before .before))) (λ c κs. search needs) (λ c. omega (arith, inside (c .before .before .before .before)))
     (λ c κs. asks c _ (omega arith))
     (λ c. record { fits = room c _ _ _ (c .before .before .before .before .before .before .loop .inv .1) (omega arith) (c .two-products .ensures .1) })
     (λ c. omega (arith, inside (c .before .before .before .before .before))) (λ c. omega (arith, inside (c .before .before .before .before .before)))

@@ -39,11 +39,12 @@ returns c =
     let a = s .args in
     let is = s .pre .1 .1 in
     let factor = c .before .before .before .before .wide .ensures .0 in
+    let at = add-right-comm (a .j) (a .x) in
     let next : a .x + 1 ≡ a .n = omega (arith, is .0, is .1) in (
       summed-more (a .a .now) (a .i) (a .b .now) (a .j) (a .x) (is .2) factor (c .before .before .before .plus-product .ensures) refl next,
-      summed-more (a .a .now) (a .i) (a .b .now) (a .j + 1) (a .x) (is .3) factor (c .before .before .plus-product2 .ensures) (add-right-comm (a .j) (a .x) 1) next,
-      summed-more (a .a .now) (a .i) (a .b .now) (a .j + 2) (a .x) (is .4) factor (c .before .plus-product3 .ensures) (add-right-comm (a .j) (a .x) 2) next,
-      summed-more (a .a .now) (a .i) (a .b .now) (a .j + 3) (a .x) (is .5) factor (c .plus-product4 .ensures) (add-right-comm (a .j) (a .x) 3) next,
+      summed-more (a .a .now) (a .i) (a .b .now) (a .j + 1) (a .x) (is .3) factor (c .before .before .plus-product2 .ensures) (at 1) next,
+      summed-more (a .a .now) (a .i) (a .b .now) (a .j + 2) (a .x) (is .4) factor (c .before .plus-product3 .ensures) (at 2) next,
+      summed-more (a .a .now) (a .i) (a .b .now) (a .j + 3) (a .x) (is .5) factor (c .plus-product4 .ensures) (at 3) next,
     )
 
 returns-2 : tie.Need-returns-2
@@ -59,8 +60,7 @@ pub with-last-spec : {M : Type 1} → statement M
 with-last-spec =
     tie.close
     (tie.spec (λ c. omega (arith, inside c)) (λ c. omega (arith, inside c)) (λ c. omega (arith, inside (c .before)))
-    (λ c κs. search needs)
-    (λ c. omega (arith, inside (c .before .before)))
+    (λ c κs. search needs) (λ c. omega (arith, inside (c .before .before)))
     (λ c κs. let s = c .before .before .before .before .before in asks c _ (s .args .j) _ (s .pre .1 .1 .2) (omega arith) (omega arith))
     (λ c. omega (arith, inside (c .before .before .before))) (λ c. omega (arith, inside (c .before .before .before)))
     (λ c κs. let s = c .before .before .before .before .before .before in asks (c .before) _ (s .args .j + 1) _ (s .pre .1 .1 .3) (omega arith) (omega arith))
