@@ -10,7 +10,7 @@ use borrow.Author.Tests.{eqb-true, eqb-false, ltb-true, ltb-false}
 use lib.Dec.{T, eqb, ltb, ltb→lt, lt→ltb}
 use lib.IntN.{ℤ, pos, natAbs, _+ℤ_, _*ℤ_}
 use lib.ListN.{length, getD, set, drop, length-set}
-use lib.Seq.{sets, getD-set-same, getD-set-other, getD-drop}
+use lib.Seq.{sets, length-sets, getD-set-same, getD-set-other, getD-drop}
 use Rattle.algebra.specs.All.{areBelow}
 use Rattle.algebra.specs.Integer.{residue, sum}
 use Rattle.algebra.proofs.All.{all-weaker, below-at}
@@ -108,8 +108,11 @@ module _ (a : List ℕ) (i : ℕ) (b : List ℕ) (j x : ℕ) {s : ℕ} (is : s �
 
 -- ---- numbers stored one after the other: f of each number from a on
 module _ (f : ℕ → ℕ) where
+  pub stored-size : (l : List ℕ) (i a n : ℕ) {y : List ℕ} → y ≡ sets l i (map f (upFrom a n)) → length y ≡ length l
+  stored-size l i a n is = ap length is ∙ length-sets l i (map f (upFrom a n))
+
   -- those of n numbers, then those of m more: a turn's, or the rest
-  pub sets-more : (l : List ℕ) (i a n m : ℕ)
+  sets-more : (l : List ℕ) (i a n m : ℕ)
       → sets (sets l i (map f (upFrom a n))) (i + n) (map f (upFrom (a + n) m)) ≡ sets l i (map f (upFrom a (n + m)))
   sets-more l i a zero m =
       let e : i + 0 ≡ i = omega arith in
@@ -123,6 +126,17 @@ module _ (f : ℕ → ℕ) where
       ap₂ (λ (x y : ℕ). sets (sets (set l i (f a)) (suc i) (map f (upFrom (suc a) n))) x (map f (upFrom y m))) e g
       ∙ sets-more (set l i (f a)) (suc i) (suc a) n m
       ∙ ap (λ (x : ℕ). sets l i (map f (upFrom a x))) h
+
+  -- the first n of m, then the rest
+  pub sets-rest : (l : List ℕ) (i n m : ℕ) {y z : List ℕ} → n ≤ m → y ≡ sets l i (map f (upFrom 0 n)) → z ≡ sets y (i + n) (map f (upFrom n (m - n)))
+      → z ≡ sets l i (map f (upFrom 0 m))
+  sets-rest l i n m few first rest =
+      let from : n ≡ 0 + n = omega arith in
+      let all : n + (m - n) ≡ m = omega arith in
+      rest
+      ∙ ap₂ (λ (y : List ℕ) (k : ℕ). sets y (i + n) (map f (upFrom k (m - n)))) first from
+      ∙ sets-more l i 0 n (m - n)
+      ∙ ap (λ (k : ℕ). sets l i (map f (upFrom 0 k))) all
 
   pub stored-more : (l : List ℕ) (i a n : ℕ) {y : List ℕ} {w at m : ℕ} → y ≡ sets l i (map f (upFrom a n)) → w ≡ f (a + n) → at ≡ i + n → n + 1 ≡ m
       → set y at w ≡ sets l i (map f (upFrom a m))

@@ -1,17 +1,14 @@
 -- `multiply` meets its contract: a row a turn.
 -- Assumes nothing.
 use mathlib.Core.Path.{_≡_, refl, ap, _∙_, subst}
-use mathlib.Core.List.{map}
 use Prim.Native.Nat.{ℕ, _+_, _-_, _*_, _<_, _≤_}
 use native.Mathlib.Omega.{arith}
 use lib.ListN.{length}
-use lib.Seq.{length-sets}
 use borrow.Author.Needs.{needs}
-use Rattle.transform.specs.UpFrom.{upFrom}
 use Rattle.split_tables.specs.Split.{width}
 use Rattle.split.specs.Levels.{UnderIn}
 use Rattle.split.specs.Products.{Products}
-use Rattle.split.proofs.ProductLaws.{product, block-room, rows-room, all-under, all-below, block-under, row-room}
+use Rattle.split.proofs.ProductLaws.{product, stored-size, block-room, rows-room, all-under, all-below, block-under, row-room}
 use Rattle.split.proofs.ProductLaws.{products-none, products-more, under-none, under-more}
 use Rattle.split.proofs.products.multiply.Statement.{statement}
 use Rattle.split.proofs.products.multiply.Tie as tie
@@ -59,9 +56,7 @@ loop-again c =
     let below = all-below (a .rows .now) (p .0) (p .2) in
     let under = all-under (p .0) (p2 .0) (p2 .4) in (
       omega arith,
-      ap length is
-          ∙ length-sets (l .y) (l .s * a .l) (map (product (a .q) (a .x .now) (l .s * a .l) (a .rows .now) (l .s * width (a .l)) (a .l)) (upFrom 0 (a .l)))
-          ∙ l .inv .1,
+      stored-size (product (a .q) (a .x .now) (l .s * a .l) (a .rows .now) (l .s * width (a .l)) (a .l)) (l .y) (l .s * a .l) 0 (a .l) is ∙ l .inv .1,
       under-more (a .rows .now) (p .0) (p2 .3) under below (p .3) inside (l .y) room is (l .inv .2),
       products-more (a .rows .now) (p .0) (p2 .3) under below (p .3) inside (l .y) room is (l .inv .3),
     )
