@@ -44,6 +44,11 @@ unfoldable pub rounds : ℕ → List ℕ → List ℕ → List ℕ
 rounds zero w s = s
 rounds (suc t) w s = round (getD K t 0) (getD w t 0) (rounds t w s)
 
+-- n rounds, from round t on
+unfoldable pub roundsFrom : ℕ → ℕ → List ℕ → List ℕ → List ℕ
+roundsFrom t zero w s = s
+roundsFrom t (suc n) w s = round (getD K (t + n) 0) (getD w (t + n) 0) (roundsFrom t n w s)
+
 -- the first n words of two hash values, added place by place
 unfoldable pub sums : ℕ → List ℕ → List ℕ → List ℕ
 sums zero s h = []
