@@ -21,7 +21,7 @@ slice-aggregate-after-tail c = let l : length (c .before .filled .result) ≡ 12
 after-tail-requires : tie.Need-after-tail-requires
 after-tail-requires c κs = let p = c .before .before .before .before .before .args in
     let l : length (c .before .filled .result) ≡ 128 = search needs in
-    length-take-le (length (p .tail .now) + length (p .bytes .now)) (c .before .filled .result) (omega arith) ∙ omega arith
+    (search needs, length-take-le (length (p .tail .now) + length (p .bytes .now)) (c .before .filled .result) (omega arith) ∙ omega arith)
 
 returns : tie.Need-returns
 returns c = let p = c .before .before .before .before .before .before .args in

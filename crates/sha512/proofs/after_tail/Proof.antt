@@ -14,7 +14,7 @@ returns : tie.Need-returns
 returns c = let s = c .before .before .before .before .before .before .before in
     let z = c .before .before .with-length .result in
     let l : length z ≡ 128 = search needs in
-    cc (hash-one (s .args .h) z l, end-short (s .args .tail .now) (s .args .total) (s .pre) (omega arith))
+    cc (hash-one (s .args .h) z l, end-short (s .args .tail .now) (s .args .total) (s .pre .1) (omega arith))
 
 returns-2 : tie.Need-returns-2
 returns-2 c = let f = c .before .before .before .before .before .before in
@@ -23,7 +23,7 @@ returns-2 c = let f = c .before .before .before .before .before .before in
     let z = c .before .before .with-length2 .result in
     let l : length x ≡ 128 = search needs in
     let m : length z ≡ 128 = search needs in
-    cc (hash-block (s .args .h) x z l, hash-one (compress (s .args .h) x) z m, end-long (s .args .tail .now) (s .args .total) (s .pre) (omega arith))
+    cc (hash-block (s .args .h) x z l, hash-one (compress (s .args .h) x) z m, end-long (s .args .tail .now) (s .args .total) (s .pre .1) (omega arith))
 
 pub after-tail-spec : {M : Type 1} → statement M
 after-tail-spec =

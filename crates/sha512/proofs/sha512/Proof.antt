@@ -8,4 +8,4 @@ use Rattle.sha512.proofs.sha512.Tie as tie
 
 pub sha512-spec : {M : Type 1} → statement M
 unfolding SHA-512 pad
-sha512-spec = tie.close (tie.spec (λ c κs. search needs) (λ c κs. search needs) (λ c κs. search needs) (λ c. cc))
+sha512-spec = tie.close (tie.spec (λ c κs. search needs) (λ c κs. search needs) (λ c κs. search needs) (λ c κs. search needs) (λ c. cc))

@@ -13,7 +13,7 @@ use Rattle.sha512.proofs.sha512_of_two.Tie as tie
 
 returns : tie.Need-returns
 unfolding SHA-512 pad
-returns c = let p = c .before .before .before .before .before .before .before .args in
+returns c = let p = c .before .before .before .before .before .before .before .before .before .before .args in
     let a = p .first .now in
     let b = p .second .now in
     cc (to-end (128 * (length a / 128)) a, hash-two H0 a b (ending (length a + length b)), length-append a b)
@@ -21,5 +21,5 @@ returns c = let p = c .before .before .before .before .before .before .before .a
 pub sha512-of-two-spec : {M : Type 1} → statement M
 sha512-of-two-spec =
     tie.close
-    (tie.spec (λ c. search needs) (λ c κs. search needs) (λ c κs. search needs) (λ c. search needs) (λ c. search needs) (λ c. search needs)
-    (λ c. search needs) (λ c κs. search needs) (λ c κs. search needs) returns)
+    (tie.spec (λ c. search needs) (λ c κs. search needs) (λ c κs. search needs) (λ c κs. search needs) (λ c. search needs) (λ c. search needs)
+    (λ c. search needs) (λ c. search needs) (λ c κs. search needs) (λ c κs. search needs) returns)
