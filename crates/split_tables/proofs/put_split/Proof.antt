@@ -51,32 +51,37 @@ put-split-spec =
     let g = t .before .before .before .before .before in
     let s = g .before .before .before in
     let order = g .put-generator-powers .ensures in
-    arm-without 0 (t .before .before .match .keys1) (s .pre .1) _ _ (order .1) (omega (arith, order .0, s .pre .2)) (c .before .before .put .ensures .1) tt refl)
+    arm-without 0 (t .before .before .match .keys1) (s .pre .1) _ _ (order .1) (omega (arith, order .0, s .pre .2))
+    (c .before .before .put .ensures .1) tt refl)
     (λ c. search needs)
     (λ c.
     let t = c .before .before .before in
     let g = t .before .before .before .before .before in
     let s = g .before .before .before in
     let order = g .put-generator-powers .ensures in
-    arm 1 (t .before .before .match .keys2) (s .pre .1) _ _ (order .1) (omega (arith, order .0, s .pre .2)) (c .before .before .put2 .ensures .1) (s .pre .0) tt)
+    arm 1 (t .before .before .match .keys2) (s .pre .1) _ _ (order .1) (omega (arith, order .0, s .pre .2))
+    (c .before .before .put2 .ensures .1) (s .pre .0) tt)
     (λ c. search needs)
     (λ c.
     let t = c .before .before .before in
     let g = t .before .before .before .before .before in
     let s = g .before .before .before in
     let order = g .put-generator-powers .ensures in
-    arm 2 (t .before .before .match .keys3) (s .pre .1) _ _ (order .1) (omega (arith, order .0, s .pre .2)) (c .before .before .put3 .ensures .1) (s .pre .0) tt)
+    arm 2 (t .before .before .match .keys3) (s .pre .1) _ _ (order .1) (omega (arith, order .0, s .pre .2))
+    (c .before .before .put3 .ensures .1) (s .pre .0) tt)
     (λ c. search needs)
     (λ c.
     let t = c .before .before .before in
     let g = t .before .before .before .before .before in
     let s = g .before .before .before in
     let order = g .put-generator-powers .ensures in
-    arm 3 (t .before .before .match .keys4) (s .pre .1) _ _ (order .1) (omega (arith, order .0, s .pre .2)) (c .before .before .put4 .ensures .1) (s .pre .0) tt)
+    arm 3 (t .before .before .match .keys4) (s .pre .1) _ _ (order .1) (omega (arith, order .0, s .pre .2))
+    (c .before .before .put4 .ensures .1) (s .pre .0) tt)
     (λ c. search needs)
     (λ c.
     let t = c .before .before .before in
     let g = t .before .before .before .before .before in
     let s = g .before .before .before in
     let order = g .put-generator-powers .ensures in
-    arm 4 (last (t .before)) (s .pre .1) _ _ (order .1) (omega (arith, order .0, s .pre .2)) (c .before .before .put5 .ensures .1) (s .pre .0) tt))
+    arm 4 (last (t .before)) (s .pre .1) _ _ (order .1) (omega (arith, order .0, s .pre .2))
+    (c .before .before .put5 .ensures .1) (s .pre .0) tt))

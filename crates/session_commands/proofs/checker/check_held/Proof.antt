@@ -12,6 +12,7 @@ use Rattle.refusal.specs.declared.Verdict.{Verdict}
 use Rattle.session_rules.specs.Held.{Chosen, Held}
 use Rattle.session_rules.specs.Commands.{afterCheck, check}
 use Rattle.session_state.specs.State.{hasExponents, hasEvaluations, chosenIn, heldIn}
+use Rattle.split_tables.specs.LookedUp.{LookedUp}
 use Rattle.session_commands.proofs.Lent.{AllThree, all-three, checks, tested, answer-encoded}
 use Rattle.session_commands.proofs.LookedUp.{fitting, points-room, table-room, in-force}
 use Rattle.session_commands.proofs.checker.check_held.Statement.{statement}
@@ -29,12 +30,17 @@ module _ (s : tie.Start) where
   evaluations-size : length (take (s .args .p .t) (s .args .evaluations .now)) ≡ s .args .p .t
   evaluations-size = length-take-le (s .args .p .t) (s .args .evaluations .now) (omega (arith, points-room (s .pre .0 .0), s .pre .1 .0 .1))
 
+-- what is looked up is of the set in force
+found : (c : tie.After-look-up) →
+    let s = c .before .before .before .before .before .before .before .args in
+    LookedUp (s .flags .set) (s .p) (c .look-up .last .1 .0) (c .look-up .last .1 .1 .0)
+found c = in-force (c .before .before .before .before .before .before .before .pre .0 .0) (c .look-up .ensures)
+
 check-in-requires : tie.Need-check-in-requires
 check-in-requires c κs =
     let t = c .before .before .before .before .before in
     let s = t .before .before .before .before .before .before .before in
-    let found = in-force (s .pre .0 .0) (t .look-up .ensures) in
-    ((found .usable, found .tables), (exponents-size s, evaluations-size s, s .pre .0 .1))
+    ((found t .usable, found t .tables), (exponents-size s, evaluations-size s, s .pre .0 .1))
 
 -- a verdict that the library gives decides
 module _ (c : tie.After-check-in) where
@@ -76,8 +82,7 @@ check-held-spec =
     (tie.spec (λ c κs. c .before .before .before .before .before .before .pre .0 .0 .known)
     (λ c. omega (arith, fitting (c .before .before .before .before .before .before .before .before .pre .0 .0) .exponents))
     (λ c. record { fits = omega (arith, table-room (c .before .before .before .before .before .before .before .before .pre .0 .0)) })
-    (λ c. in-force (c .before .before .before .before .before .before .before .before .before .pre .0 .0) (c .before .before .look-up .ensures) .room)
-    (λ c. sym (in-force (c .before .before .before .before .before .before .before .before .before .before .pre .0 .0) (c .before .before .before .look-up .ensures) .tables .size))
+    (λ c. found (c .before .before) .room) (λ c. sym (found (c .before .before .before) .tables .size))
     (λ c. sym (exponents-size (c .before .before .before .before .before .before .before .before .before .before .before)))
     (λ c. sym (evaluations-size (c .before .before .before .before .before .before .before .before .before .before .before .before))) check-in-requires
     (λ c. search needs)

@@ -17,6 +17,7 @@ use Rattle.encoding.specs.Encoding.{keyIn, areEvaluations}
 use Rattle.session_rules.specs.Held.{Held}
 use Rattle.session_rules.specs.Commands.{values, accepted, keyResidues, loadKey}
 use Rattle.session_state.specs.State.{heldIn}
+use Rattle.split_tables.specs.LookedUp.{LookedUp}
 use Rattle.session_commands.proofs.Lent.{tested}
 use Rattle.session_commands.proofs.LookedUp.{sound, fitting, points-room, table-room, in-force}
 use Rattle.session_commands.proofs.loading.load_key.Statement.{statement}
@@ -39,12 +40,17 @@ module _ (s : tie.Start) where
   key-room : s .args .p .n ≤ length (s .args .key .now)
   key-room = omega (arith, fitting (s .pre .0 .0) .size, s .pre .1 .0 .1)
 
+-- what is looked up is of the set in force
+found : (c : tie.After-look-up) →
+    let s = c .before .before .before .before .before .before .before .before .before .args in
+    LookedUp (s .flags .set) (s .p) (c .look-up .last .1 .0) (c .look-up .last .1 .1 .0)
+found c = in-force (c .before .before .before .before .before .before .before .before .before .pre .0 .0) (c .look-up .ensures)
+
 key-evaluations-requires : tie.Need-key-evaluations-requires
 key-evaluations-requires c κs =
     let t = c .before .before .before .before .before in
-    let s = t .before .before .before .before .before .before .before .before .before in
-    let found = in-force (s .pre .0 .0) (t .look-up .ensures) in (
-      (found .usable, found .tables),
+    let s = t .before .before .before .before .before .before .before .before .before in (
+      (found t .usable, found t .tables),
       (
         s .pre .0 .1,
         exponents-size s,
@@ -98,11 +104,11 @@ returns-2 c =
 pub load-key-spec : {M : Type 1} → statement M
 load-key-spec =
     tie.close
-    (tie.spec (λ c κs. search needs) (λ c κs. search needs) returns (λ c κs. c .before .before .before .before .before .before .before .before .pre .0 .0 .known)
+    (tie.spec (λ c κs. search needs) (λ c κs. search needs) returns
+    (λ c κs. c .before .before .before .before .before .before .before .before .pre .0 .0 .known)
     (λ c. omega (arith, fitting (c .before .before .before .before .before .before .before .before .before .before .pre .0 .0) .exponents))
     (λ c. record { fits = omega (arith, table-room (c .before .before .before .before .before .before .before .before .before .before .pre .0 .0)) })
-    (λ c. in-force (c .before .before .before .before .before .before .before .before .before .before .before .pre .0 .0) (c .before .before .look-up .ensures) .room)
-    (λ c. sym (in-force (c .before .before .before .before .before .before .before .before .before .before .before .before .pre .0 .0) (c .before .before .before .look-up .ensures) .tables .size))
+    (λ c. found (c .before .before) .room) (λ c. sym (found (c .before .before .before) .tables .size))
     (λ c. sym (exponents-size (c .before .before .before .before .before .before .before .before .before .before .before .before .before)))
     (λ c. evaluations-room (c .before .before .before .before .before .before .before .before .before .before .before .before .before))
     (λ c. sym (length-take-le _ _ (evaluations-room

@@ -44,5 +44,6 @@ public-key-spec =
     (λ c. omega (arith, c .before .look-up .ensures .usable .fitting .exponents))
     (λ c. record { fits = omega (arith, c .before .look-up .ensures .usable .fitting .size) })
     (λ c. c .before .before .look-up .ensures .room) (λ c. sym (c .before .before .before .look-up .ensures .tables .size))
-    (λ c. some-bytes (known (c .before .before .before .before .before .before .before))) (λ c. some-bytes (known (c .before .before .before .before .before .before .before)))
+    (λ c. some-bytes (known (c .before .before .before .before .before .before .before)))
+    (λ c. some-bytes (known (c .before .before .before .before .before .before .before)))
     (λ c. search needs) public-key-in-requires (λ c. search needs) returns-2)
