@@ -1,7 +1,8 @@
 /* Measures the kit's functions beside plain C of the same method, on the same input, in one run: least and middle time of many rounds in
    microseconds, and the ratios. A difference in what the two compute ends the run. Evaluation at all exponents, 1 to N-1, has its own method, and is
-   measured beside N-1 plain evaluations: those of plain C, and in a table of its own those of the kit. With HAVE_FFTW another table has the paper's
-   method, Rader's reordering with FFTW, beside the kit. The last one shows how the kit's evaluation grows. */
+   measured beside N-1 plain evaluations: those of plain C, and in a table of its own those of the kit. Another table has points that are outside at one
+   coefficient. With HAVE_FFTW another has the paper's method, Rader's reordering with FFTW, beside the kit. The last one shows how the kit's evaluation
+   grows. */
 #include "material.h"
 #ifdef HAVE_FFTW
 #include "fftw.h"
@@ -19,6 +20,7 @@ static struct result {
 static uint32_t powers[1153];
 static uint16_t exponents[1152]; /* 1 to N-1 */
 static int16_t key[1153];
+static int32_t tested[1153]; /* a point */
 static uint8_t pool[512];
 
 static void head(const char *first, const char *second)
@@ -85,6 +87,8 @@ static void ours_checks(void) { ours.answer = passign_check(public_key, 1 + 5 * 
 static void plain_plays(void) { plain_play(file, size, plain.rows); }
 static void ours_plays(void) { play_file(ours.rows); }
 
+static void plain_tests(void) { plain.answer = plain_first_outside(in_use(), tested); }
+static void ours_tests(void) { ours.answer = harness_first_outside(tested, in_use()->n, in_use()->k - in_use()->b); }
 static void plain_products(void) { plain_draws(), plain_points(); }
 static void ours_products(void) { ours_draws(), ours_points(); }
 
@@ -96,6 +100,26 @@ static void prepare(uint8_t number)
         key[i] = (int8_t)secret_key[1 + i];
     for (size_t i = 0; i + 1 < in_use()->n; i++)
         exponents[i] = i + 1;
+}
+
+/* the test of a point, and sessions in which seven masks of eight fail, by where the first coefficient is outside */
+static void compare_failing(void)
+{
+    static const char *const points_of[3] = {"point, first", "point, middle", "point, last"};
+    static const char *const sessions_of[3] = {"session, first", "session, middle", "session, last"};
+    size_t places[3] = {0, in_use()->n / 2, in_use()->n - 1};
+    for (size_t i = 0; i < in_use()->n; i++)
+        tested[i] = masks[0][i];
+    compare("point, none", plain_tests, ours_tests);
+    for (int i = 0; i < 3; i++) {
+        tested[places[i]] = in_use()->k;
+        compare(points_of[i], plain_tests, ours_tests);
+        tested[places[i]] = masks[0][places[i]];
+    }
+    for (int i = 0; i < 3; i++) {
+        fill_with_failing(places[i]);
+        compare(sessions_of[i], plain_plays, ours_plays);
+    }
 }
 
 #ifdef HAVE_FFTW
@@ -213,6 +237,12 @@ int main(void)
     for (int number = 1; number < 5; number++) {
         prepare(number);
         compare("evaluate all, our own", ours_evaluates_each, ours_evaluates_all);
+    }
+    printf("where the first coefficient is outside: of a point, and of seven masks of eight in a session of 64 KiB\n");
+    head("plain C", "ours");
+    for (int number = 1; number < 5; number++) {
+        prepare(number);
+        compare_failing();
     }
     compare_with_paper();
     print_growth();

@@ -144,13 +144,13 @@ int plain_challenge(const struct plain_set *s, const uint32_t *commitment, const
     return plain_draw(s, pool, c);
 }
 
-static int in_range(const struct plain_set *s, const int32_t *z)
+size_t plain_first_outside(const struct plain_set *s, const int32_t *z)
 {
     int32_t bound = s->k - s->b;
-    int all = 1;
-    for (size_t i = 0; i < s->n; i++)
-        all &= -bound <= z[i] && z[i] <= bound;
-    return all;
+    size_t i = 0;
+    while (i < s->n && -bound <= z[i] && z[i] <= bound)
+        i++;
+    return i;
 }
 
 int plain_sign(const struct plain_set *s, const uint32_t *powers, const uint8_t *secret_key, const uint16_t *points, const int16_t *mask,
@@ -166,7 +166,7 @@ int plain_sign(const struct plain_set *s, const uint32_t *powers, const uint8_t 
     if (!plain_challenge(s, commitment, message, size, c))
         return 0;
     plain_point(s, f, c, mask, z);
-    if (!in_range(s, z))
+    if (plain_first_outside(s, z) < s->n)
         return 0;
     *signature++ = secret_key[0];
     for (size_t i = 0; i < s->n; i++)
@@ -196,7 +196,7 @@ int plain_check(const struct plain_set *s, const uint32_t *powers, const uint8_t
         c[(signature[1 + 2 * i] & 0x7f) << 8 | signature[2 + 2 * i]] = signature[1 + 2 * i] & 0x80 ? -1 : 1;
     for (size_t i = 0; i < s->n; i++)
         wide[i] = z[i] = (int16_t)(point[2 * i] << 8 | point[2 * i + 1]);
-    if (!in_range(s, wide))
+    if (plain_first_outside(s, wide) < s->n)
         return 0;
     plain_evaluate(s, powers, c, points, s->t, of_c);
     plain_evaluate(s, powers, z, points, s->t, of_z);

@@ -19,6 +19,8 @@ void plain_point(const struct plain_set *s, const int16_t *f, const int8_t *c, c
 int plain_challenge(const struct plain_set *s, const uint32_t *commitment, const uint8_t *message, size_t size, int8_t *c);
 /* the challenge of a pool of 512 bytes: 1, or 0 where it is spent */
 int plain_draw(const struct plain_set *s, const uint8_t *pool, int8_t *c);
+/* the index of the first coefficient outside -(k - b)..k - b, or n where none is outside */
+size_t plain_first_outside(const struct plain_set *s, const int32_t *z);
 /* signs with one mask: 1, or 0 where it does not pass */
 int plain_sign(const struct plain_set *s, const uint32_t *powers, const uint8_t *secret_key, const uint16_t *points, const int16_t *mask,
                const uint8_t *message, size_t size, uint8_t *signature);

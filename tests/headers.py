@@ -6,7 +6,7 @@ import re
 from building import REPOSITORY
 
 HEADERS = {"include/passign.h": "passign_c", "bench/harness.h": "harness"}
-ELEMENTS = {"u8": "uint8_t", "i8": "int8_t", "u16": "uint16_t", "i16": "int16_t", "u32": "uint32_t", "i32": "int32_t"}
+ELEMENTS = {"u8": "uint8_t", "i8": "int8_t", "u16": "uint16_t", "i16": "int16_t", "u32": "uint32_t", "i32": "int32_t", "usize": "size_t"}
 
 
 def without_comments(text):

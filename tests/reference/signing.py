@@ -17,8 +17,13 @@ def point(s, f, c, y):
     return [p + value for p, value in zip(product(s, f, c), y)]
 
 
+def first_outside(bound, z):
+    """The index of the first coefficient that is not in -bound..bound, or their number where none is outside (request #103)."""
+    return next((i for i, value in enumerate(z) if not -bound <= value <= bound), len(z))
+
+
 def in_range(s, z):
-    return all(-(s.k - s.b) <= value <= s.k - s.b for value in z)
+    return first_outside(s.k - s.b, z) == len(z)
 
 
 def try_mask(s, f, points, y, message):

@@ -33,7 +33,7 @@ use parameters::MAX_N;
 use parameters::MAX_T;
 use parameters::Params;
 use parameters::params_of;
-use polynomial::product::in_range16;
+use polynomial::range::in_range16;
 use refusal::Verdict;
 use refusal::WRONG_ENTRIES;
 use refusal::WRONG_EVALUATION;

@@ -28,7 +28,7 @@ use encoding::signature::signature_size;
 use parameters::Params;
 use parameters::is_set;
 use parameters::params_of;
-use polynomial::product::is_ternary;
+use polynomial::range::is_ternary;
 use refusal::Answer;
 use refusal::WRONG_ENTRIES;
 use refusal::WRONG_EVALUATION;

@@ -10,6 +10,7 @@ ghost use lib.ListN.{length};
 ghost use Rattle.algebra.specs.All.{areBelow};
 ghost use Rattle.parameters.specs.Sets.{isSet, setOf};
 ghost use Rattle.polynomial.specs.Evaluation.{evaluations};
+ghost use Rattle.polynomial.specs.FirstOutside.{firstOutside};
 ghost use Rattle.polynomial.specs.Polynomial.{zOf, ternary};
 ghost use Rattle.sha512.specs.Digest.{SHA-512};
 
@@ -36,6 +37,20 @@ pub extern "C" fn harness_point(f: &[i16], c: &[i8], y: &[i16], z: &mut [i32])
     ensures { λ _. ⌜ now (z .exit) ≡ zOf (now (f .entry)) (now (c .entry)) (now (y .entry)) ⌝ }
 {
     polynomial::product::z_of(f, c, y, z);
+}
+
+#[no_mangle]
+pub extern "C" fn harness_first_outside(z: &[i32], bound: u32) -> usize
+    ensures { λ r. ⌜ r ≡ firstOutside bound (now (z .entry)) ⌝ }
+{
+    polynomial::range::first_outside(z, bound)
+}
+
+#[no_mangle]
+pub extern "C" fn harness_first_outside16(values: &[i16], bound: u32) -> usize
+    ensures { λ r. ⌜ r ≡ firstOutside bound (now (values .entry)) ⌝ }
+{
+    polynomial::range::first_outside16(values, bound)
 }
 
 // The plain evaluator at any exponents below N, to measure the one at all exponents against.

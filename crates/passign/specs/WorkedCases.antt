@@ -1,5 +1,5 @@
--- The worked cases of document 01, in set 0 but for a size in set 4, and evaluations at both ends of the signed form: rows of one table, and the test of a
--- row by the definitions that the entries' contracts cite.
+-- The worked cases of document 01, in set 0 but for a size in set 4, evaluations at both ends of the signed form, and where the test of a range ends: rows of
+-- one table, and the test of a row by the definitions that the entries' contracts cite.
 -- Assumes nothing.
 use mathlib.Core.Bool.{Bool, true, false, _&&_, not, cond}
 use mathlib.Core.List.{List, [], _∷_, _++_, map}
@@ -10,6 +10,7 @@ use lib.ListN.{length, replicate}
 use Rattle.algebra.specs.Integer.{within}
 use Rattle.parameters.specs.Sets.{setOf}
 use Rattle.polynomial.specs.Polynomial.{star, zOf}
+use Rattle.polynomial.specs.FirstOutside.{firstOutside}
 use Rattle.polynomial.specs.Evaluation.{evaluations, evaluationResidues}
 use Rattle.transform.specs.UpFrom.{upFrom}
 use Rattle.transform.specs.AllExponents.{allExponents}
@@ -40,6 +41,8 @@ pub data Case : Type 0 where
   multiplies : List ℤ → List ℤ → List ℤ → Case
   -- key, challenge and mask give this point, in range or not
   reaches : List ℤ → List ℤ → List ℤ → List ℤ → Bool → Case
+  -- the test of this point ends at this index
+  leaves : List ℤ → ℕ → Case
   -- challenge and point are encoded as these bytes
   encodes : List ℤ → List ℤ → List ℕ → Case
   -- a signature of this set has so many bytes
@@ -100,6 +103,12 @@ cases =
     ∷ multiplies key challenge (poly (pos 1) (minus 1) (pos 1) (minus 2) (pos 1))
     ∷ reaches key challenge (poly (pos 3) (pos 4) (minus 5) (pos 2) (pos 0)) (poly (pos 4) (pos 3) (minus 4) (pos 0) (pos 1)) true
     ∷ reaches key challenge (poly (pos 3) (pos 4) (minus 6) (pos 2) (pos 0)) (poly (pos 4) (pos 3) (minus 5) (pos 0) (pos 1)) false
+    -- the two points above; then outside at the first, at the last and at two coefficients
+    ∷ leaves (poly (pos 4) (pos 3) (minus 4) (pos 0) (pos 1)) 5
+    ∷ leaves (poly (pos 4) (pos 3) (minus 5) (pos 0) (pos 1)) 2
+    ∷ leaves (poly (minus 5) (pos 4) (pos 0) (pos 0) (pos 0)) 0
+    ∷ leaves (poly (pos 4) (minus 4) (pos 4) (minus 4) (pos 5)) 4
+    ∷ leaves (poly (pos 0) (pos 9) (minus 4) (minus 5) (pos 0)) 1
     ∷ evaluates oneKey (minus 10 ∷ minus 6 ∷ []) (21 ∷ 25 ∷ [])
     ∷ evaluates otherKey (minus 10 ∷ minus 6 ∷ []) (21 ∷ 25 ∷ [])
     ∷ reaches oneKey sharedChallenge oneMask sharedPoint true
@@ -135,5 +144,6 @@ holds (reorders f us ws sums) =
     && (equal (map (reorderedPowers (generatorOf 0) (setOf 0)) (upFrom 0 4)) ws && equal (map (reorderedSum (generatorOf 0) (setOf 0) f) (upFrom 0 4)) sums)
 holds (multiplies f c r) = equal (star f c) r
 holds (reaches f c y z inside) = equal (zOf f c y) z && sameBool (within (setOf 0 .k - setOf 0 .b) z) inside
+holds (leaves z i) = eqb (firstOutside (setOf 0 .k - setOf 0 .b) z) i
 holds (encodes c z xs) = sameNumbers (signatureOf 0 (record { c = c; z = z })) xs
 holds (measures s size) = eqb (signatureSize (setOf s)) size

@@ -1,8 +1,6 @@
 -- Ranges: how large the coefficients of sums, multiples and products can be. The product with a ternary polynomial is within the other factor's weight.
--- And the loop of a range test, one number a turn, whatever the numbers' width.
 -- Assumes nothing.
-use mathlib.Core.Path.{refl, sym, subst, _≡_, ap, _∙_}
-use mathlib.Core.Bool.{Bool, true, _&&_}
+use mathlib.Core.Path.{refl, sym, subst}
 use mathlib.Core.List.{List, [], _∷_}
 use Prim.Native.Nat.{ℕ, zero, suc, _+_, _-_, _*_, _%_, _≤_, _<_, zero-le}
 use native.Mathlib.Nat.{le-trans, mul-le-mul-left, mul-one}
@@ -11,7 +9,7 @@ use lib.Dec.{T, leb, leb→le, le→leb}
 use lib.IntN.{ℤ, pos, natAbs}
 use lib.ListN.{length, take, drop, replicate, length-take}
 use lib.Seq.{getD-take}
-use Rattle.algebra.proofs.All.{all-from, all-drop, all-step, all-done}
+use Rattle.algebra.proofs.All.{all-from, all-drop}
 use Rattle.algebra.proofs.Test.{and-left, and-right, and-intro}
 use Rattle.algebra.proofs.Absolute.{abs-add, abs-neg, abs-mul}
 use Rattle.algebra.specs.Integer.{within}
@@ -91,22 +89,3 @@ weight-take (suc i) (a ∷ c) = omega (arith, weight-take i c)
 pub partial-within : (k i : ℕ) (f c y : List ℤ) → T (ternary f) → T (ternary c) → T (within k y) → T (within (k + length c) (zOf f (take i c) y))
 partial-within k i f c y s t u =
     z-within k (length c) f (take i c) y s (le-trans (weight-take i c) (weight-ternary c t)) u
-
--- ---- the loop of a range test
--- ok says whether the first i numbers are in -k..k
-pub record Tested (k : ℕ) (z : List ℤ) (ok : Bool) (i : ℕ) : Type 0 where
-  pub below : i ≤ length z
-  pub so-far : ok ≡ within k (take i z)
-
-pub tested-none : {k : ℕ} {z : List ℤ} → Tested k z true 0
-tested-none = record { below = omega arith; so-far = refl }
-
-module _ {k : ℕ} {z : List ℤ} {ok : Bool} {i : ℕ} (s : Tested k z ok i) where
-  pub tested-more : {t : Bool} {a : ℤ} → i < length z → t ≡ leb (natAbs a) k → a ≡ coefficient z i → Tested k z (ok && t) (i + 1)
-  tested-more h e r = record {
-    below = omega arith;
-    so-far = all-step (λ (a : ℤ). leb (natAbs a) k) z i (pos 0) h (s .so-far) (e ∙ ap (λ (a : ℤ). leb (natAbs a) k) r);
-  }
-
-  pub tested-all : length z ≤ i → ok ≡ within k z
-  tested-all h = all-done (λ (a : ℤ). leb (natAbs a) k) z i h (s .so-far)

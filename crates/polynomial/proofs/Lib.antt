@@ -1,5 +1,7 @@
 pub mod Linear
 pub mod Bound
+pub mod FirstOutside
+pub mod RangeLoops
 pub mod Horner
 pub mod EvaluationLaws
 pub mod SignedForm

@@ -1,4 +1,5 @@
 pub mod Polynomial
+pub mod FirstOutside
 pub mod Sparse
 pub mod Rotation
 pub mod Evaluation

@@ -1,8 +1,7 @@
-// The point z = f ⋆ c + y as integers, and the test of a range: of a point against k - b, of masks against k, of a key against 1.
-// A challenge has few coefficients that are not 0: each costs one pass over f.
+// The point z = f ⋆ c + y as integers. A challenge has few coefficients that are not 0: each costs one pass over f.
 ghost use mathlib.Core.Path.{_≡_};
 ghost use Prim.Native.Nat.{_≤_, _^_};
-ghost use lib.Dec.{T, leb};
+ghost use lib.Dec.{T};
 ghost use lib.IntN.{natAbs, _+ℤ_, _*ℤ_};
 ghost use lib.ListN.{length};
 ghost use Rattle.algebra.specs.Integer.{within};
@@ -87,54 +86,4 @@ pub fn z_of(f: &[i16], c: &[i8], y: &[i16], z: &mut [i32])
     let mut sums = [0i16; MAX_N];
     add_star(f, c, &mut sums[..n]);
     add_mask(&sums[..n], y, z);
-}
-
-// Whether a is in -bound..bound.
-pub fn is_within(a: i32, bound: u32) -> bool
-    ensures { λ r. ⌜ r ≡ leb (natAbs a) bound ⌝ }
-{
-    if a < 0 {
-        ((-1 - a) as u32) < bound
-    } else {
-        (a as u32) <= bound
-    }
-}
-
-// Whether every coefficient of z is in -bound..bound.
-pub fn in_range(z: &[i32], bound: u32) -> bool
-    ensures { λ r. ⌜ r ≡ within bound (now (z .entry)) ⌝ }
-{
-    let mut all = true;
-    let mut i: usize = 0;
-    while i < z.len() {
-        all = all & is_within(z[i], bound);
-        i += 1;
-    }
-    all
-}
-
-// The same of numbers of 16 bits: masks, and the point of a signature.
-pub fn in_range16(values: &[i16], bound: u32) -> bool
-    ensures { λ r. ⌜ r ≡ within bound (now (values .entry)) ⌝ }
-{
-    let mut all = true;
-    let mut i: usize = 0;
-    while i < values.len() {
-        all = all & is_within(values[i] as i32, bound);
-        i += 1;
-    }
-    all
-}
-
-// The same of numbers of 8 bits against 1: whether each coefficient is -1, 0 or 1.
-pub fn is_ternary(f: &[i8]) -> bool
-    ensures { λ r. ⌜ r ≡ ternary (now (f .entry)) ⌝ }
-{
-    let mut all = true;
-    let mut i: usize = 0;
-    while i < f.len() {
-        all = all & is_within(f[i] as i32, 1);
-        i += 1;
-    }
-    all
 }

@@ -27,7 +27,7 @@ use parameters::MAX_N;
 use parameters::MAX_T;
 use parameters::Params;
 use parameters::is_set;
-use polynomial::product::in_range16;
+use polynomial::range::in_range16;
 use refusal::TOO_MANY_MASKS;
 use refusal::WRONG_EVALUATION;
 use refusal::WRONG_EXPONENTS;

@@ -1,4 +1,4 @@
--- `in_range16` meets its contract: after i turns the flag says whether the first i numbers are in range.
+-- `all_within16` meets its contract: after i turns the flag says whether the first i numbers are in range.
 -- Assumes nothing.
 use Prim.Native.Nat.{_-_}
 use native.Mathlib.Omega.{arith}
@@ -6,9 +6,9 @@ use lib.ListN.{length}
 use mir.Syntax.{w16, w32}
 use borrow.Author.Needs.{needs}
 use Rattle.algebra.proofs.Signed.{fits-wider, read-wider}
-use Rattle.polynomial.proofs.Bound.{Tested, tested-none, tested-more, tested-all}
-use Rattle.polynomial.proofs.product.in_range16.Statement.{statement}
-use Rattle.polynomial.proofs.product.in_range16.Tie as tie
+use Rattle.polynomial.proofs.RangeLoops.{Tested, tested-none, tested-more, tested-all}
+use Rattle.polynomial.proofs.range.all_within16.Statement.{statement}
+use Rattle.polynomial.proofs.range.all_within16.Tie as tie
 
 abbrev Inv-loop : tie.InvT-loop
 Inv-loop values bound all₀ i₀ all i = Tested bound values all i
@@ -25,8 +25,8 @@ loop-again c =
     let e = read-wider w16 w32 tt (c .before .before .before .before .args .values .now) (l .i) (c .before .is-within-arg .given) in
     tested-more (l .inv) (omega arith) (c .is-within .ensures) e
 
-pub in-range16-spec : {M : Type 1} → statement M
-in-range16-spec =
+pub all-within16-spec : {M : Type 1} → statement M
+all-within16-spec =
     tie.close
     (tie.spec Inv-loop μ-loop (λ c. tested-none) (λ c. search needs) (λ c. search needs) cast-is-within (λ c κs. search needs)
     (λ c. omega arith) (λ c. omega arith) loop-again (λ c. tested-all (c .before .loop .inv) (omega arith)))

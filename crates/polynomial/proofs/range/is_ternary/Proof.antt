@@ -6,9 +6,9 @@ use lib.ListN.{length}
 use mir.Syntax.{w8, w32}
 use borrow.Author.Needs.{needs}
 use Rattle.algebra.proofs.Signed.{fits-wider, read-wider}
-use Rattle.polynomial.proofs.Bound.{Tested, tested-none, tested-more, tested-all}
-use Rattle.polynomial.proofs.product.is_ternary.Statement.{statement}
-use Rattle.polynomial.proofs.product.is_ternary.Tie as tie
+use Rattle.polynomial.proofs.RangeLoops.{Tested, tested-none, tested-more, tested-all}
+use Rattle.polynomial.proofs.range.is_ternary.Statement.{statement}
+use Rattle.polynomial.proofs.range.is_ternary.Tie as tie
 
 abbrev Inv-loop : tie.InvT-loop
 Inv-loop f all₀ i₀ all i = Tested 1 f all i
