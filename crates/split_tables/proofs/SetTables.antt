@@ -12,6 +12,7 @@ use Rattle.parameters.specs.Sets.{setOf}
 use Rattle.parameters.specs.Sound.{Sound, Fitting}
 use Rattle.parameters.proofs.Sound.{set-sound, set-fitting}
 use Rattle.transform.specs.Generator.{generatorOf, GeneratorTable}
+use Rattle.transform.proofs.Tables.{arm-size}
 use Rattle.split_tables.specs.Split.{shapeOf, splitFrom, rootAt, SplitTables, SplitTable}
 use Rattle.split_tables.specs.Test.{splitTests, isSplit}
 use Rattle.split_tables.proofs.TestLaws.{each, twists-of-test, rows-of-test}
@@ -51,9 +52,6 @@ module _ (p : Params) (base : ℕ) (order table : List ℕ) where
 
 -- ---- the arms of the match on a set: s is the number j of the arm, `last` its N - 1, r what was put behind the generator's powers
 module _ (j : ℕ) {s last : ℕ} (is : s ≡ j) (count : last ≡ setOf s .n - 1) where
-  pub arm-size : last ≡ setOf j .n - 1
-  arm-size = count ∙ ap (λ (x : ℕ). setOf x .n - 1) is
-
   abbrev Ordered : List ℕ → ℕ → Type 0
   Ordered first x = GeneratorTable (generatorOf x) (setOf x .n) (take (setOf x .n - 1) first)
 
@@ -64,11 +62,12 @@ module _ (j : ℕ) {s last : ℕ} (is : s ≡ j) (count : last ≡ setOf s .n - 
     -- the generator's powers, and the table behind them
     front : length table ≡ 2 * (setOf j .n - 1) → take (3 * (setOf j .n - 1)) r ≡ take (setOf j .n - 1) first ++ table
     front size =
-        let count : 3 * (setOf j .n - 1) ≡ last + 2 * last = omega (arith, arm-size) in
-        let whole : 2 * last ≡ length table = omega (arith, arm-size) in
-        ap₂ (λ (m : ℕ) (l : List ℕ). take m l) count e
+        let of-arm = arm-size j is count in
+        let three : 3 * (setOf j .n - 1) ≡ last + 2 * last = omega (arith, of-arm) in
+        let whole : 2 * last ≡ length table = omega (arith, of-arm) in
+        ap₂ (λ (m : ℕ) (l : List ℕ). take m l) three e
         ∙ take-paste first last table (2 * last) (omega arith) (omega arith)
-        ∙ ap₂ (λ (m k : ℕ). take m first ++ take k table) arm-size whole
+        ∙ ap₂ (λ (m k : ℕ). take m first ++ take k table) of-arm whole
         ∙ ap (λ (l : List ℕ). take (setOf j .n - 1) first ++ l) (take-length table)
 
     -- a set with a split

@@ -7,7 +7,8 @@ use Rattle.parameters.specs.Sets.{sets, setOf}
 use Rattle.transform.specs.Generator.{generators, generatorOf}
 use Rattle.split_tables.specs.Split.{shapeOf}
 use Rattle.split_tables.specs.Test.{twistTests, plusTimes, combined, isOrbit, rowTests, splitTests}
-use Rattle.split_tables.proofs.SetTables.{arm-size, arm, arm-without}
+use Rattle.transform.proofs.Tables.{arm-size}
+use Rattle.split_tables.proofs.SetTables.{arm, arm-without}
 use Rattle.split_tables.proofs.put_split.Statement.{statement}
 use Rattle.split_tables.proofs.put_split.Tie as tie
 
