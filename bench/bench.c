@@ -87,8 +87,16 @@ static void ours_checks(void) { ours.answer = passign_check(public_key, 1 + 5 * 
 static void plain_plays(void) { plain_play(file, size, plain.rows); }
 static void ours_plays(void) { play_file(ours.rows); }
 
-static void plain_tests(void) { plain.answer = plain_first_outside(in_use(), tested); }
-static void ours_tests(void) { ours.answer = harness_first_outside(tested, in_use()->n, in_use()->k - in_use()->b); }
+static void plain_tests(void)
+{
+    for (int i = 0; i < 100; i++)
+        plain.answer += plain_first_outside(in_use(), tested);
+}
+static void ours_tests(void)
+{
+    for (int i = 0; i < 100; i++)
+        ours.answer += harness_first_outside(tested, in_use()->n, in_use()->k - in_use()->b);
+}
 static void plain_products(void) { plain_draws(), plain_points(); }
 static void ours_products(void) { ours_draws(), ours_points(); }
 
@@ -105,12 +113,12 @@ static void prepare(uint8_t number)
 /* the test of a point, and sessions in which seven masks of eight fail, by where the first coefficient is outside */
 static void compare_failing(void)
 {
-    static const char *const points_of[3] = {"point, first", "point, middle", "point, last"};
+    static const char *const points_of[3] = {"100 points, first", "100 points, middle", "100 points, last"};
     static const char *const sessions_of[3] = {"session, first", "session, middle", "session, last"};
     size_t places[3] = {0, in_use()->n / 2, in_use()->n - 1};
     for (size_t i = 0; i < in_use()->n; i++)
         tested[i] = masks[0][i];
-    compare("point, none", plain_tests, ours_tests);
+    compare("100 points, none", plain_tests, ours_tests);
     for (int i = 0; i < 3; i++) {
         tested[places[i]] = in_use()->k;
         compare(points_of[i], plain_tests, ours_tests);
@@ -238,7 +246,7 @@ int main(void)
         prepare(number);
         compare("evaluate all, our own", ours_evaluates_each, ours_evaluates_all);
     }
-    printf("where the first coefficient is outside: of a point, and of seven masks of eight in a session of 64 KiB\n");
+    printf("where the first coefficient is outside: of a point, tested 100 times, and of seven masks of eight in a session of 64 KiB\n");
     head("plain C", "ours");
     for (int number = 1; number < 5; number++) {
         prepare(number);
