@@ -8,7 +8,7 @@ ghost use Rattle.polynomial.specs.FirstOutside.{firstOutside};
 ghost use Rattle.polynomial.specs.Polynomial.{ternary};
 
 // Whether a is in -bound..bound: by how far it is above the lower end, with no branch.
-pub fn is_within(a: i32, bound: u32) -> bool
+fn is_within(a: i32, bound: u32) -> bool
     ensures { λ r. ⌜ r ≡ leb (natAbs a) bound ⌝ }
 {
     let above = a as i64 + bound as i64;
@@ -53,6 +53,7 @@ pub fn first_outside(z: &[i32], bound: u32) -> usize
     i + scan(&z[i..], bound)
 }
 
+// The three above of 16 bits: of masks, and of the point of a signature.
 fn all_within16(values: &[i16], bound: u32) -> bool
     ensures { λ r. ⌜ r ≡ within bound (now (values .entry)) ⌝ }
 {
