@@ -5,7 +5,7 @@
 
    A slice is a pointer and its length in elements. The pointer is not null, also where the length is 0, is aligned for its elements, and all of
    the slice may be read, or written for a result; a result buffer overlaps no other slice. Nothing checks these, nor that there is enough stack:
-   accepted calls were measured to take up to 129 KiB of it (bench/stack; passign_check). The archive is for x86-64.
+   accepted calls were measured to take up to 111 KiB of it (bench/stack; passign_check). The archive is for x86-64.
 
    Encodings, numbers of several bytes with the high byte first:
      secret key   the set, then N bytes: 00, 01, or FF for -1
