@@ -110,6 +110,36 @@ static void prepare(uint8_t number)
         exponents[i] = i + 1;
 }
 
+/* 04 of a mask with k at a place: its point is outside there, unless that key's product with that challenge is -b at this place */
+static void failing_mask(int mask, size_t at)
+{
+    uint8_t signature[2379];
+    int16_t passing = masks[mask][at];
+    masks[mask][at] = (int16_t)in_use()->k;
+    if (sign_with(masks[mask], signature) != PASSIGN_NONE_PASSES) {
+        printf("a mask passes: choose another seed\n");
+        exit(1);
+    }
+    command(4, mask);
+    masks[mask][at] = passing;
+}
+
+/* a file full of signings, each of which passes over seven masks that are outside at one place */
+static void fill_with_failing(size_t at)
+{
+    size_t signing = 8 * (1 + 2 * in_use()->n) + 1;
+    begin_file();
+    command(3, 0);
+    command(5, 0);
+    for (int mask = 0; mask + 8 <= MASKS && size + signing < FILE_ROOM; mask += 8) {
+        for (int i = 0; i < 7; i++)
+            failing_mask(mask + i, at);
+        command(4, mask + 7);
+        command(6, 0);
+    }
+    command(0, 0);
+}
+
 /* the test of a point, and sessions in which seven masks of eight fail, by where the first coefficient is outside */
 static void compare_failing(void)
 {

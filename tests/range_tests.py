@@ -13,29 +13,27 @@ WIDTHS = {"harness_first_outside": ("i", -2**31, 2**31 - 1), "harness_first_outs
 
 
 def bounds():
-    """Of every set k - b and k; and those at which nothing, one end or all but 0 is outside."""
-    return sorted({bound for s in SETS for bound in (s.k - s.b, s.k)} | {0, 1, 32767, 32768, 2**31 - 1, 2**31, 2**32 - 1})
+    """Of every set k - b and k; the least, and the largest that is allowed, at which of 16 bits only -32768 is outside."""
+    return sorted({bound for s in SETS for bound in (s.k - s.b, s.k)} | {0, 1, 32767})
 
 
-def inside(rng, bound, least, largest):
-    low, high = max(-bound, least), min(bound, largest)
-    return rng.choice((low, high, rng.randint(low, high)))
+def inside(rng, bound):
+    return rng.choice((-bound, bound, rng.randint(-bound, bound)))
 
 
 def outside(rng, bound, least, largest):
-    """A number outside, most often by 1; None where the width has none."""
+    """A number outside, by 1 or the width's end."""
     choices = [value for value in (bound + 1, largest) if bound < value <= largest]
     choices += [value for value in (-bound - 1, least) if least <= value < -bound]
-    return rng.choice(choices) if choices else None
+    return rng.choice(choices)
 
 
 def make(rng, width, size, bound, places):
-    """A list with numbers outside at the places, where there are such numbers."""
+    """A list with numbers outside at the places alone."""
     _, least, largest = WIDTHS[width]
-    values = [inside(rng, bound, least, largest) for _ in range(size)]
+    values = [inside(rng, bound) for _ in range(size)]
     for place in places:
-        value = outside(rng, bound, least, largest)
-        values[place] = values[place] if value is None else value
+        values[place] = outside(rng, bound, least, largest)
     return values
 
 

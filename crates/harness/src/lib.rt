@@ -4,7 +4,7 @@ mod plays;
 ghost use mathlib.Core.Path.{_≡_};
 ghost use mathlib.Core.Bool.{true};
 ghost use mathlib.Core.List.{_++_};
-ghost use Prim.Native.Nat.{_≤_};
+ghost use Prim.Native.Nat.{_≤_, _<_, _^_};
 ghost use lib.Dec.{T};
 ghost use lib.ListN.{length};
 ghost use Rattle.algebra.specs.All.{areBelow};
@@ -41,6 +41,7 @@ pub extern "C" fn harness_point(f: &[i16], c: &[i8], y: &[i16], z: &mut [i32])
 
 #[no_mangle]
 pub extern "C" fn harness_first_outside(z: &[i32], bound: u32) -> usize
+    requires { ⌜ bound < 2 ^ 15 ⌝ }
     ensures { λ r. ⌜ r ≡ firstOutside bound (now (z .entry)) ⌝ }
 {
     polynomial::range::first_outside(z, bound)
@@ -48,6 +49,7 @@ pub extern "C" fn harness_first_outside(z: &[i32], bound: u32) -> usize
 
 #[no_mangle]
 pub extern "C" fn harness_first_outside16(values: &[i16], bound: u32) -> usize
+    requires { ⌜ bound < 2 ^ 15 ⌝ }
     ensures { λ r. ⌜ r ≡ firstOutside bound (now (values .entry)) ⌝ }
 {
     polynomial::range::first_outside16(values, bound)

@@ -1,5 +1,6 @@
 pub mod Linear
 pub mod Bound
+pub mod Ends
 pub mod FirstOutside
 pub mod RangeLoops
 pub mod Horner

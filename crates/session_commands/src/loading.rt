@@ -2,7 +2,7 @@
 ghost use mathlib.Core.Path.{_≡_};
 ghost use mathlib.Core.Bool.{true};
 ghost use mathlib.Core.List.{map};
-ghost use Prim.Native.Nat.{_*_};
+ghost use Prim.Native.Nat.{_*_, _^_, _<_};
 ghost use lib.ListN.{length, replicate};
 ghost use Rattle.algebra.specs.Integer.{within};
 ghost use Rattle.parameters.specs.Limits.{maxN, maxT};
@@ -187,7 +187,7 @@ pub fn load_key(
 
 // Reads a mask, and says whether its numbers are in -k..k.
 fn read_mask(k: u32, operand: &[u8], mask: &mut [i16]) -> bool
-    requires { ⌜ length (now operand) ≡ 2 * length (now mask) ⌝ }
+    requires { ⌜ (k < 2 ^ 15) × (length (now operand) ≡ 2 * length (now mask)) ⌝ }
     ensures mask { λ _. ⌜ now (mask .exit) ≡ map signed16 (numbers 2 (length (now (mask .entry))) (now (operand .entry))) ⌝ }
     ensures test { λ r. ⌜ r ≡ within k (now (mask .exit)) ⌝ }
 {

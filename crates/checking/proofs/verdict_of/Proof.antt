@@ -77,5 +77,6 @@ returns-3 c = verdict-is _ _ _ _ _ {t = false} (sym (c .if1 .left) ∙ c .before
 pub verdict-of-spec : {M : Type 1} → statement M
 verdict-of-spec =
     tie.close
-    (tie.spec (λ c. search needs) (λ c. search needs) (λ c κs. search needs) (λ c κs. c .before .before .before .before .before .before .before .pre)
+    (tie.spec (λ c. search needs) (λ c. search needs)
+    (λ c κs. omega (arith, c .before .before .before .before .before .pre .usable .fitting .mask)) (λ c κs. c .before .before .before .before .before .before .before .pre)
     commitment-room commitment-count challenge-of-requires challenge-room challenge-count is-equal-requires returns returns-2 returns-3)

@@ -74,5 +74,6 @@ pub sign-with-challenge-spec : {M : Type 1} → statement M
 sign-with-challenge-spec =
     tie.close
     (tie.spec (λ c. search needs) count z-of-requires (λ c. search needs) (λ c. search needs) (λ c. reached (c .before .before .before) .room)
-    (λ c. reached (c .before .before .before .before) .count) (λ c κs. search needs) (λ c. reached (c .before .before .before .before .before .before) .room)
+    (λ c. reached (c .before .before .before .before) .count)
+    (λ c κs. omega (arith, start (c .before .before .before .before) .pre .0 .1 .mask)) (λ c. reached (c .before .before .before .before .before .before) .room)
     (λ c. reached (c .before .before .before .before .before .before .before) .count) encode-signature-requires (λ c. search needs) returns returns-2)

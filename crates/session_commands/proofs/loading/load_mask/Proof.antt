@@ -35,6 +35,9 @@ module _ (c : tie.Else1) where
   size : let a = start .args in let place = a .flags .count * a .p .n in length (take (place + a .p .n - place) (drop place (a .masks .now))) ≡ a .p .n
   size = place-size (start .args .p .n) (start .args .flags .count) (start .args .masks .now) (c .if1 .left) (start .pre .0 .size) (start .pre .1 .1)
 
+read-mask-requires : tie.Need-read-mask-requires
+read-mask-requires c κs = (start (c .before) .pre .0 .mask, omega (arith, size (c .before), start (c .before) .pre .1 .0))
+
 -- what is read there is the mask, and is tested
 module _ (c : tie.After-read-mask) where
   abbrev before : tie.Else1
@@ -74,5 +77,5 @@ pub load-mask-spec : {M : Type 1} → statement M
 load-mask-spec =
     tie.close
     (tie.spec (λ c κs. search needs) returns (λ c. omega (arith, fits c)) (λ c. omega (arith, fits c)) (λ c. omega (arith, fits c)) (λ c. search needs)
-    (λ c. search needs) (λ c. omega (arith, fits c)) (λ c κs. search needs) (λ c κs. search needs) (λ c. search needs) returns-2 (λ c. search needs)
+    (λ c. search needs) (λ c. omega (arith, fits c)) read-mask-requires (λ c κs. search needs) (λ c. search needs) returns-2 (λ c. search needs)
     (λ c κs. search needs) (λ c. search needs) returns-3)
