@@ -78,5 +78,6 @@ pub verdict-of-spec : {M : Type 1} → statement M
 verdict-of-spec =
     tie.close
     (tie.spec (λ c. search needs) (λ c. search needs)
-    (λ c κs. omega (arith, c .before .before .before .before .before .pre .usable .fitting .mask)) (λ c κs. c .before .before .before .before .before .before .before .pre)
-    commitment-room commitment-count challenge-of-requires challenge-room challenge-count is-equal-requires returns returns-2 returns-3)
+    (λ c κs. omega (arith, c .before .before .before .before .before .pre .usable .fitting .mask))
+    (λ c κs. c .before .before .before .before .before .before .before .pre) commitment-room commitment-count challenge-of-requires
+    challenge-room challenge-count is-equal-requires returns returns-2 returns-3)

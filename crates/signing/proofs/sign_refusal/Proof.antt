@@ -32,5 +32,5 @@ returns-2 c =
 pub sign-refusal-spec : {M : Type 1} → statement M
 sign-refusal-spec =
     tie.close
-    (tie.spec (λ c. search needs) (λ c κs. search needs) returns (λ c κs. omega (arith, c .before .before .before .before .pre .mask)) (λ c κs. search needs) (λ c κs. search needs) (λ c κs. search needs)
-    (λ c κs. search needs) (λ c κs. search needs) returns-2)
+    (tie.spec (λ c. search needs) (λ c κs. search needs) returns (λ c κs. omega (arith, c .before .before .before .before .pre .mask))
+    (λ c κs. search needs) (λ c κs. search needs) (λ c κs. search needs) (λ c κs. search needs) (λ c κs. search needs) returns-2)

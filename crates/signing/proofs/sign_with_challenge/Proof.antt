@@ -75,5 +75,6 @@ sign-with-challenge-spec =
     tie.close
     (tie.spec (λ c. search needs) count z-of-requires (λ c. search needs) (λ c. search needs) (λ c. reached (c .before .before .before) .room)
     (λ c. reached (c .before .before .before .before) .count)
-    (λ c κs. omega (arith, start (c .before .before .before .before) .pre .0 .1 .mask)) (λ c. reached (c .before .before .before .before .before .before) .room)
+    (λ c κs. omega (arith, start (c .before .before .before .before) .pre .0 .1 .mask))
+    (λ c. reached (c .before .before .before .before .before .before) .room)
     (λ c. reached (c .before .before .before .before .before .before .before) .count) encode-signature-requires (λ c. search needs) returns returns-2)
