@@ -13,6 +13,7 @@ use borrow.Author.Tests.{le-leb}
 use Rattle.algebra.proofs.Absolute.{abs-neg}
 use Rattle.algebra.proofs.Signed.{fits-signed}
 
+-- not below -k and not above k is what an absolute value of at most k is
 by-ends : (a : ℤ) (k : ℕ) → leZ (negℤ (pos k)) a && leZ a (pos k) ≡ leb (natAbs a) k
 by-ends (pos n) zero = rw (le-leb 0 n zero-le) refl
 by-ends (pos n) (suc k) = refl

@@ -5,11 +5,11 @@ use mathlib.Core.List.{List, [], _∷_}
 use mathlib.Core.Logic.{inl, inr, ⊎-elim}
 use Prim.Native.Nat.{ℕ, zero, suc, _<_, _≤_, zero-le, suc-le-suc}
 use native.Mathlib.Omega.{arith}
-use lib.Dec.{leb, eqb}
-use borrow.Author.Tests.{leb-true, leb-false, le-leb, lt-leb, ne-eqb}
+use lib.Dec.{leb, eqb, eqb·zero-suc, eqb·suc-suc}
+use borrow.Author.Tests.{leb-true, leb-false, le-leb, lt-leb}
 use lib.IntN.{ℤ, natAbs}
 use lib.ListN.{length}
-use Rattle.algebra.proofs.Test.{cond-by, by-test, eqb-suc}
+use Rattle.algebra.proofs.Test.{cond-by, by-test}
 use Rattle.algebra.specs.Integer.{within}
 use Rattle.polynomial.specs.Polynomial.{coefficient}
 use Rattle.polynomial.specs.FirstOutside.{firstOutside, EndsAt}
@@ -47,5 +47,5 @@ module _ (k : ℕ) where
   pub first-outside-within : (z : List ℤ) → eqb (firstOutside k z) (length z) ≡ within k z
   first-outside-within [] = refl
   first-outside-within (a ∷ z) =
-      by-test (leb (natAbs a) k) (λ t. rw t (eqb-suc (firstOutside k z) (length z) ∙ first-outside-within z))
-      (λ f. rw f (ne-eqb 0 (suc (length z)) (λ e. omega (arith, e))))
+      by-test (leb (natAbs a) k) (λ t. rw t (eqb·suc-suc (firstOutside k z) (length z) ∙ first-outside-within z))
+      (λ f. rw f (eqb·zero-suc (length z)))

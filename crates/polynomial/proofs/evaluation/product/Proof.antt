@@ -1,7 +1,7 @@
 -- `product` meets its contract: 15 bits with a sign times 32 bits.
 -- Assumes nothing.
 use mathlib.Core.Path.{_≡_, refl, ap₂}
-use Prim.Native.Nat.{_*_, _^_, _≤_}
+use Prim.Native.Nat.{_^_, _≤_}
 use native.Mathlib.Nat.{mul-le-mul, le-of-lt}
 use native.Mathlib.Omega.{arith}
 use lib.IntN.{ℤ, pos, negsuc, _*ℤ_, natAbs}
