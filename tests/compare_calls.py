@@ -4,6 +4,7 @@ from collections import Counter, defaultdict
 
 import library_calls
 from c_library import GUARD, as_bytes, from_bytes
+from challenge_weight import Challenges
 from reference import library
 from reference.parameters import SETS
 
@@ -88,7 +89,7 @@ def print_counts(counts):
 
 def run(seed, kit_call, only=None):
     """True when all agree. Without kit_call the reference runs alone, for the coverage."""
-    counts, ends = defaultdict(Counter), defaultdict(set)
+    counts, ends, challenges = defaultdict(Counter), defaultdict(set), Challenges()
     for name in [only] if only else library_calls.names():
         call = library_calls.make(seed, name)
         answer, after = expected(call)
@@ -97,13 +98,16 @@ def run(seed, kit_call, only=None):
         if call.entry in EVALUATORS and answer == 0:
             ends[call.entry, number] |= ends_in(SETS[number], call.entry, after)
         text = difference(call, kit_call, answer, after) if kit_call else None
+        if not text and answer not in REFUSALS[call.entry]:
+            text = challenges.add(call, after)
         if text:
             report(call, seed, text)
             return False
-    gaps = [] if only else missing(counts, ends)
+    gaps = [] if only else missing(counts, ends) + challenges.missing()
     for gap in gaps:
         print(f"library: NOT COVERED: {gap}")
     print_counts(counts)
+    challenges.print()
     called = sum(sum(count.values()) for count in counts.values())
     against = "agree with the reference" if kit_call else "of the reference alone"
     print(f"library: {called} calls {against}, seed {seed}")

@@ -144,19 +144,22 @@ def skipped_values(rng, s, kept, count):
     return [rng.choice(top + repeats) for _ in range(count)]
 
 
-def draw_at_the_last_value(rng, s, spent=False):
-    """Index b is drawn by the pool's very last value; or not quite, and the pool is spent."""
-    shortest = 64 * ((8 + 2 * s.b + 63) // 64)
-    length = rng.randrange(shortest, 513, 64)
-    indices = rng.sample(range(s.N), s.b)
-    values = indices[:-1]
-    values += skipped_values(rng, s, values, (length - 8) // 2 - s.b)
-    values += skipped_values(rng, s, indices[:-1], 1) if spent else indices[-1:]
-    return with_pool(rng, s, pool_of_values(rng, length, values))
+def draw_at_the_last_value(length, spent=False):
+    """Index b is drawn by the very last value of a pool of this length; or not quite, and the pool is spent, as it is where b values have no room."""
+    def make(rng, s):
+        room = (length - 8) // 2
+        indices = rng.sample(range(s.N), min(s.b, room))
+        values = indices[:-1]
+        values += skipped_values(rng, s, values, room - len(indices))
+        values += skipped_values(rng, s, indices[:-1], 1) if spent else indices[-1:]
+        return with_pool(rng, s, pool_of_values(rng, length, values))
+    return make
 
 
-def draw_spent_at_the_last_value(rng, s):
-    return draw_at_the_last_value(rng, s, spent=True)
+def draws_at_the_last_value():
+    """For pools of every length."""
+    return {f"{'spent at ' if spent else ''}last value of {length} bytes": draw_at_the_last_value(length, spent)
+            for length in material.POOL_LENGTHS for spent in (False, True)}
 
 
 def draw_about_the_skip_bound(rng, s):
@@ -265,8 +268,7 @@ SPECIAL = {
     "evaluate": {**corners(evaluate_corner), "upper end": evaluate_at_end(1), "lower end": evaluate_at_end(-1)},
     "evaluate_all": {**corners(all_corner), "upper end": all_at_end(1), "lower end": all_at_end(-1)},
     "public_key": corners(public_key_corner),
-    "draw": {"zeros": draw_zeros, "wrong pool": draw_wrong_pool, "last value": draw_at_the_last_value,
-             "spent at last": draw_spent_at_the_last_value, "skip bound": draw_about_the_skip_bound},
+    "draw": {"zeros": draw_zeros, "wrong pool": draw_wrong_pool, "skip bound": draw_about_the_skip_bound, **draws_at_the_last_value()},
     "sign": {"after failing": sign_after_failing, "none passes": sign_none_passes,
              "edge": sign_at_the_edge, "tight": sign_tight,
              **corners(sign_key_corner, "key "), **corners(sign_mask_corner, "mask ")},

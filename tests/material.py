@@ -8,6 +8,7 @@ from reference.parameters import powers
 from reference.polynomials import centred, evaluation, evaluation_residues
 
 MESSAGE_EDGES = (0, 1, 111, 112)  # 111 is the longest message of one SHA-512 block
+POOL_LENGTHS = range(64, 513, 64)
 
 
 def unsigned(rng, count, bits):

@@ -11,7 +11,7 @@ use native.Mathlib.Numerals.{add-one}
 use native.Mathlib.Omega.{arith}
 use borrow.Author.Tests.{eqb-true, eqb-false, leb-false, le-leb, lt-leb}
 use lib.Dec.{leb, eqb}
-use lib.IntN.{ℤ, pos, natAbs}
+use lib.IntN.{ℤ, pos, negsuc, natAbs}
 use lib.ListN.{length, getD, set, take, replicate, length-append, length-set, length-replicate, getD-replicate}
 use lib.Seq.{getD-set-same, getD-set-other, take-set-lt}
 use mir.Syntax.{w8}
@@ -61,9 +61,12 @@ kept-rest p bytes m n h =
 
 -- a sign is 1 or -1, so it fits a signed byte
 
-pub sign-abs : (bytes : List ℕ) (i : ℕ) → natAbs (signAt bytes i) ≡ 1
+pub sign-by : (P : ℤ → Type 0) (bytes : List ℕ) (i : ℕ) → P (pos 1) → P (negsuc 0) → P (signAt bytes i)
 unfolding signAt
-sign-abs bytes i = cond-by (λ (z : ℤ). natAbs z ≡ 1) (eqb (getD bytes (i / 8) 0 / 2 ^ (i % 8) % 2) 0) (λ e. refl) (λ e. refl)
+sign-by P bytes i plus minus = cond-by P (eqb (getD bytes (i / 8) 0 / 2 ^ (i % 8) % 2) 0) (λ e. plus) (λ e. minus)
+
+pub sign-abs : (bytes : List ℕ) (i : ℕ) → natAbs (signAt bytes i) ≡ 1
+sign-abs bytes i = sign-by (λ (z : ℤ). natAbs z ≡ 1) bytes i refl refl
 
 pub sign-stored : (bytes : List ℕ) (i : ℕ) {r : ℤ} → r ≡ signAt bytes i → toZ w8 (ofZ w8 r) ≡ signAt bytes i
 sign-stored bytes i e = rw e (toZ-ofZ (fits-signed w8 (signAt bytes i) (rw (sign-abs bytes i) (omega arith))))

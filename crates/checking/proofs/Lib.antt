@@ -3,6 +3,5 @@ pub mod Allowed
 pub mod Guard
 pub mod Encoded
 pub mod Recovery
-pub mod Ternary
 pub mod Comparison
 pub mod Verdict

@@ -11,7 +11,7 @@ use Rattle.algebra.specs.All.{areBelow}
 use Rattle.parameters.specs.declared.Params.{Params}
 use Rattle.parameters.specs.Limits.{maxT}
 use Rattle.parameters.specs.Ring.{Usable}
-use Rattle.polynomial.specs.Polynomial.{ternary}
+use Rattle.polynomial.specs.Sparse.{Sparse}
 use Rattle.split_tables.specs.Split.{SplitTable}
 use Rattle.challenge.specs.Draw.{drawChallenge}
 use Rattle.encoding.specs.Encoding.{areExponents}
@@ -36,8 +36,7 @@ pub record Checkable (p : Params) (powers table exponents vs : List ℕ) (c z : 
   pub exponents-rise : areExponents p exponents ≡ true
   pub evaluations-size : length vs ≡ p .t
   pub evaluations-below : T (areBelow (p .q) vs)
-  pub challenge-size : length c ≡ p .n
-  pub challenge-ternary : T (ternary c)
+  pub challenge : Sparse p c
   pub z-size : length z ≡ p .n
 
 -- what the differences ask: lists of one length, of evaluations

@@ -1,6 +1,6 @@
 -- A challenge's entries read back, and entries written back.
 -- Assumes nothing.
-use mathlib.Core.Path.{_≡_, refl, sym, ap, ap₂, _∙_}
+use mathlib.Core.Path.{_≡_, refl, sym, ap, ap₂, subst, _∙_}
 use mathlib.Core.Bool.{true, false, _&&_}
 use mathlib.Core.List.{List, [], _∷_, map}
 use Prim.Native.Nat.{ℕ, zero, suc, _+_, _≤_, _<_}
@@ -75,6 +75,23 @@ entries-below i (pos (suc a) ∷ c) h =
 entries-below i (negsuc a ∷ c) h =
     and-intro (ltb (i + 32768) 65536) (areBelow 65536 (entriesFrom (suc i) c)) (lt→ltb (i + 32768) 65536 (omega arith)) (entries-below (suc i) c (omega arith))
 
+-- ---- coefficients from entries with increasing indices
+
+-- what holds behind the last coefficient, and is kept by an entry with its coefficient in front and by a 0 in front, holds of the coefficients from index i
+module _ (n : ℕ) (P : ℕ → List ℕ → List ℤ → Type 0) (done : P n [] [])
+    (entry : (i e : ℕ) (es : List ℕ) (c : List ℤ) → indexOf e ≡ i → P (suc i) es c → P i (e ∷ es) (coefficientOf e ∷ c))
+    (none : (i : ℕ) (es : List ℕ) (c : List ℤ) → P (suc i) es c → P i es (pos 0 ∷ c)) where
+  pub by-coefficient : (k i : ℕ) (es : List ℕ) → n ≡ i + k → T (increasing n i (map indexOf es)) → P i es (coefficientsFrom i k es)
+  by-coefficient zero i [] s t = subst (λ (j : ℕ). P j [] []) (omega arith) done
+  by-coefficient zero i (e ∷ es) s t = let (h, l, r) = first-number n i (indexOf e) (map indexOf es) t in absurd (omega arith)
+  by-coefficient (suc k) i [] s t = none i [] _ (by-coefficient k (suc i) [] (omega arith) tt)
+  by-coefficient (suc k) i (e ∷ es) s t =
+      let (h, l, r) = first-number n i (indexOf e) (map indexOf es) t in
+      by-test (eqb (indexOf e) i)
+      (λ q. let x : indexOf e ≡ i = eqb-true (indexOf e) i q in rw q (entry i e es _ x (by-coefficient k (suc i) es (omega arith) (rw x at r))))
+      (λ q. let x = eqb-false (indexOf e) i q in
+      rw q (none i (e ∷ es) _ (by-coefficient k (suc i) (e ∷ es) (omega arith) (increasing-from n (suc i) (indexOf e) (map indexOf es) (omega arith) l r))))
+
 -- ---- the challenge of a challenge's entries
 
 module _ (n i k : ℕ) where
@@ -114,15 +131,9 @@ module _ (i : ℕ) (c : List ℤ) where
 
 pub entries-of-coefficients : (k i n : ℕ) (es : List ℕ) → n ≡ i + k → T (increasing n i (map indexOf es)) → T (areBelow 65536 es)
     → entriesFrom i (coefficientsFrom i k es) ≡ es
-entries-of-coefficients zero i n [] s t b = refl
-entries-of-coefficients zero i n (e ∷ es) s t b = let (h, l, r) = first-number n i (indexOf e) (map indexOf es) t in absurd (omega arith)
-entries-of-coefficients (suc k) i n [] s t b = entries-of-coefficients k (suc i) n [] (omega arith) tt tt
-entries-of-coefficients (suc k) i n (e ∷ es) s t b =
-    let (h, l, r) = first-number n i (indexOf e) (map indexOf es) t in
-    let f : e < 65536 = ltb→lt e 65536 (and-left (ltb e 65536) (areBelow 65536 es) b) in
-    by-test (eqb (indexOf e) i)
-    (λ q. let x : indexOf e ≡ i = eqb-true (indexOf e) i q in
-    rw q (entry-back i (coefficientsFrom (suc i) k es) e f x
-    ∙ ap (λ (y : List ℕ). e ∷ y) (entries-of-coefficients k (suc i) n es (omega arith) (rw x at r) (and-right (ltb e 65536) (areBelow 65536 es) b))))
-    (λ q. let x = eqb-false (indexOf e) i q in
-    rw q (entries-of-coefficients k (suc i) n (e ∷ es) (omega arith) (increasing-from n (suc i) (indexOf e) (map indexOf es) (omega arith) l r) b))
+entries-of-coefficients k i n =
+    by-coefficient n (λ (j : ℕ) (es : List ℕ) (c : List ℤ). T (areBelow 65536 es) → entriesFrom j c ≡ es) (λ b. refl)
+    (λ j e es c q h b.
+    entry-back j c e (ltb→lt e 65536 (and-left (ltb e 65536) (areBelow 65536 es) b)) q
+    ∙ ap (λ (y : List ℕ). e ∷ y) (h (and-right (ltb e 65536) (areBelow 65536 es) b)))
+    (λ j es c h. h) k i

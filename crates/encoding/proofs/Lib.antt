@@ -6,6 +6,8 @@ pub mod Range
 pub mod Entries
 pub mod Inverse
 pub mod EntriesInverse
+pub mod EntryCount
+pub mod ReadChallenge
 pub mod OneEncoding
 pub mod Parts
 pub mod Decoded

@@ -18,6 +18,7 @@ use Rattle.polynomial.specs.Sparse.{Sparse}
 use Rattle.polynomial.proofs.Linear.{length-z}
 use Rattle.encoding.specs.Challenge.{entriesOf, areEntries, challengeOf}
 use Rattle.encoding.specs.Encoding.{keyOf, signatureSize, SignatureRange, entriesRead, zRead}
+use Rattle.encoding.proofs.EntryCount.{length-entries}
 use Rattle.encoding.proofs.Sign.{mag-le}
 use Rattle.encoding.proofs.OneEncoding.{entries-read-back, z-read-back, signature-length, entries-accepted, entries-below, challenge-read-back}
 use Rattle.scheme.specs.Scheme.{Drawer, Signed}
@@ -25,7 +26,6 @@ use Rattle.refusal.specs.Answer.{setByte}
 use Rattle.signing.specs.Signer.{maskAt, signatureOf}
 use Rattle.signing.specs.Sign.{signWrittenIn}
 use Rattle.signing.proofs.OfferedMasks.{mask-size}
-use Rattle.signing.proofs.EntryCount.{length-entries}
 use Rattle.signing.proofs.AcceptedSigning.{SignedAs, signed-bytes, size-of-key, offered, passes-of}
 use Rattle.checking.specs.Check.{bodyRead, signatureRead}
 use Rattle.passign.specs.Hiding.{Encodable}
@@ -42,17 +42,17 @@ module _ {draw : Drawer} {p : Params} {key exponents : List ℕ} {masks : List �
   abbrev bytes : List ℕ
   bytes = signWrittenIn draw p key exponents masks message out
 
-  sparse : Sparse p c
-  sparse = e .draws (evaluationResidues p (maskAt p masks i) exponents) message c (passes-of a .challenge)
+  pub sparse-challenge : Sparse p c
+  sparse-challenge = e .draws (evaluationResidues p (maskAt p masks i) exponents) message c (passes-of a .challenge)
 
   few : length c ≤ 32768
-  few = omega (arith, sparse .size, e .fitting .size)
+  few = omega (arith, sparse-challenge .size, e .fitting .size)
 
   range : SignatureRange p (entriesOf c) z
   range =
       let size = mask-size p masks i (offered a) in
       record {
-        entries-length = length-entries 0 c (sparse .small) ∙ sparse .full;
+        entries-length = length-entries 0 c ∙ sparse-challenge .exact;
         entries-below = entries-below c few;
         z-length = ap length (passes-of a .is-z) ∙ length-z (keyOf key) c (maskAt p masks i) (le-of-eq (size-of-key a ∙ sym size)) ∙ size;
         z-signed =
@@ -73,10 +73,10 @@ module _ {draw : Drawer} {p : Params} {key exponents : List ℕ} {masks : List �
   z-back = ap (zRead p) (signed-bytes a) ∙ z-read-back p (setByte key) (entriesOf c) z range
 
   pub entries-allowed : areEntries (p .n) (entriesRead p bytes) ≡ true
-  entries-allowed = rw (entries-back, ← sparse .size) (holds-true (areEntries (length c) (entriesOf c)) (entries-accepted c few))
+  entries-allowed = rw (entries-back, ← sparse-challenge .size) (holds-true (areEntries (length c) (entriesOf c)) (entries-accepted c few))
 
   challenge-back : challengeOf (p .n) (entriesRead p bytes) ≡ c
-  challenge-back = rw (entries-back, ← sparse .size) (challenge-read-back c few (sparse .small))
+  challenge-back = rw (entries-back, ← sparse-challenge .size) (challenge-read-back c few (sparse-challenge .small))
 
   -- the bytes mean the signature
   pub meaning : signatureRead p bytes ≡ r .signature

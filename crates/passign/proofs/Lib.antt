@@ -6,6 +6,7 @@ pub mod Correctness
 pub mod VerdictRule
 pub mod FirstPassing
 pub mod Range
+pub mod ExactlyB
 pub mod SignatureSize
 pub mod Hiding
 pub mod HidingOfMany

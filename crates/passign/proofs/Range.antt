@@ -3,21 +3,20 @@
 use mathlib.Core.Path.{_≡_}
 use mathlib.Core.List.{List}
 use mathlib.Core.Option.{some}
-use Prim.Native.Nat.{ℕ, _+_, _≤_}
-use native.Mathlib.Nat.{le-of-eq}
+use Prim.Native.Nat.{ℕ, _+_}
 use lib.Dec.{T}
 use lib.IntN.{ℤ}
 use lib.ListN.{length}
 use Rattle.algebra.proofs.Test.{true-holds}
 use Rattle.algebra.specs.Integer.{within}
 use Rattle.parameters.specs.declared.Params.{Params}
-use Rattle.polynomial.specs.Polynomial.{zOf, weight}
+use Rattle.polynomial.specs.Polynomial.{zOf}
 use Rattle.polynomial.specs.Evaluation.{evaluationResidues}
-use Rattle.polynomial.proofs.Bound.{z-within}
+use Rattle.polynomial.proofs.Sparse.{point-within}
 use Rattle.challenge.specs.Draw.{drawChallenge}
 use Rattle.challenge.proofs.Challenge.{challenge-sparse}
 use Rattle.encoding.specs.Encoding.{keyOf}
-use Rattle.scheme.specs.Scheme.{Drawer}
+use Rattle.scheme.specs.Scheme.{Drawer, SparseDrawer}
 use Rattle.signing.specs.Signer.{maskAt}
 use Rattle.refusal.specs.Answer.{setIn}
 use Rattle.signing.specs.Sign.{signRefusalIn, signRefusal}
@@ -26,20 +25,20 @@ use Rattle.signing.proofs.Entry.{known-iff}
 use Rattle.signing.proofs.Masks.{mask-small}
 use Rattle.encoding.proofs.EncodedKey.{key-ternary}
 
--- in any set, with any way to draw whose challenges have weight at most b
-pub range : (draw : Drawer) (p : Params) → ((w m : List ℕ) (c : List ℤ) → draw p w m ≡ some c → weight c ≤ p .b)
+-- in any set, with any way to draw sparse challenges
+pub range : (draw : Drawer) (p : Params) → SparseDrawer draw p
     → (key exponents : List ℕ) (masks : List ℤ) (message : List ℕ) (room : ℕ) → signRefusalIn p key exponents masks room ≡ 0
     → (i : ℕ) (c : List ℤ) → draw p (evaluationResidues p (maskAt p masks i) exponents) message ≡ some c
     → T (within (p .k + p .b) (zOf (keyOf key) c (maskAt p masks i)))
-range draw p light key exponents masks message room allowed i c e =
+range draw p draws key exponents masks message room allowed i c e =
     let k = sign-allowed p key exponents masks room .0 allowed in
-    z-within (p .k) (p .b) (keyOf key) c (maskAt p masks i) (key-ternary key (k .ternary))
-    (light (evaluationResidues p (maskAt p masks i) exponents) message c e) (mask-small p masks (true-holds (k .small)) i)
+    point-within (draws (evaluationResidues p (maskAt p masks i) exponents) message c e) (p .k) (keyOf key) (maskAt p masks i)
+    (key-ternary key (k .ternary)) (mask-small p masks (true-holds (k .small)) i)
 
 -- the entry, in the five sets
 pub entry-range : (key exponents : List ℕ) (masks : List ℤ) (message out : List ℕ) → signRefusal key exponents masks message out ≡ 0
     → (i : ℕ) (c : List ℤ) → drawChallenge (setIn key) (evaluationResidues (setIn key) (maskAt (setIn key) masks i) exponents) message ≡ some c
     → T (within (setIn key .k + setIn key .b) (zOf (keyOf key) c (maskAt (setIn key) masks i)))
 entry-range key exponents masks message out allowed =
-    range drawChallenge (setIn key) (λ w m c e. le-of-eq (challenge-sparse (setIn key) w m c e .full)) key exponents masks message (length out)
+    range drawChallenge (setIn key) (challenge-sparse (setIn key)) key exponents masks message (length out)
     (known-iff key exponents masks message out .0 allowed .1)

@@ -1,5 +1,5 @@
--- The worked cases of document 01, in set 0 but for a size in set 4, evaluations at both ends of the signed form, and where the test of a range ends: rows of
--- one table, and the test of a row by the definitions that the entries' contracts cite.
+-- The worked cases of document 01, in set 0 but for a size in set 4, evaluations at both ends of the signed form, where the test of a range ends, and what a
+-- challenge has: rows of one table, and the test of a row by the definitions that the entries' contracts cite.
 -- Assumes nothing.
 use mathlib.Core.Bool.{Bool, true, false, _&&_, not, cond}
 use mathlib.Core.List.{List, [], _∷_, _++_, map}
@@ -9,7 +9,8 @@ use lib.IntN.{ℤ, pos, negsuc}
 use lib.ListN.{length, replicate}
 use Rattle.algebra.specs.Integer.{within}
 use Rattle.parameters.specs.Sets.{setOf}
-use Rattle.polynomial.specs.Polynomial.{star, zOf}
+use Rattle.polynomial.specs.Polynomial.{star, zOf, oneNorm}
+use Rattle.polynomial.specs.Sparse.{zeros, nonzeros}
 use Rattle.polynomial.specs.FirstOutside.{firstOutside}
 use Rattle.polynomial.specs.Evaluation.{evaluations, evaluationResidues}
 use Rattle.transform.specs.UpFrom.{upFrom}
@@ -18,6 +19,7 @@ use Rattle.transform.specs.Generator.{generatorOf}
 use Rattle.transform.specs.Convolution.{convolution}
 use Rattle.transform.specs.Reordering.{reorderedCoefficients, reorderedPowers, reorderedSum}
 use Rattle.challenge.specs.Draw.{draw, kept, valueCount}
+use Rattle.encoding.specs.Challenge.{areEntries}
 use Rattle.encoding.specs.Encoding.{signatureSize}
 use Rattle.scheme.specs.Scheme.{equal, isDrawn}
 use Rattle.signing.specs.Signer.{signatureOf}
@@ -43,6 +45,10 @@ pub data Case : Type 0 where
   reaches : List ℤ → List ℤ → List ℤ → List ℤ → Bool → Case
   -- the test of this point ends at this index
   leaves : List ℤ → ℕ → Case
+  -- a polynomial has so many coefficients that are not 0, so many that are 0, and this sum of absolute values
+  counts : List ℤ → ℕ → ℕ → ℕ → Case
+  -- challenge entries are accepted or not
+  accepts : List ℕ → Bool → Case
   -- challenge and point are encoded as these bytes
   encodes : List ℤ → List ℤ → List ℕ → Case
   -- a signature of this set has so many bytes
@@ -120,6 +126,15 @@ cases =
     ∷ evaluates (constant (minus 16)) (pos 15 ∷ pos 15 ∷ []) (15 ∷ 15 ∷ [])
     ∷ evaluates (constant (minus 15)) (minus 15 ∷ minus 15 ∷ []) (16 ∷ 16 ∷ [])
     ∷ evaluates (constant (pos 16)) (minus 15 ∷ minus 15 ∷ []) (16 ∷ 16 ∷ [])
+    -- a challenge has two that are not 0; of other polynomials the sum is not the count
+    ∷ counts challenge 2 3 2
+    ∷ counts (poly (pos 3) (minus 2) (pos 0) (pos 0) (pos 1)) 3 2 6
+    -- the indices 2 and 3; one index twice, with one sign and with both; decreasing; N
+    ∷ accepts (0x0002 ∷ 0x8003 ∷ []) true
+    ∷ accepts (0x0002 ∷ 0x0002 ∷ []) false
+    ∷ accepts (0x0002 ∷ 0x8002 ∷ []) false
+    ∷ accepts (0x8003 ∷ 0x0002 ∷ []) false
+    ∷ accepts (0x0002 ∷ 0x0005 ∷ []) false
     ∷ encodes challenge (poly (pos 4) (pos 3) (minus 4) (pos 0) (pos 1))
     (0x00 ∷ 0x00 ∷ 0x02 ∷ 0x80 ∷ 0x03 ∷ 0x00 ∷ 0x04 ∷ 0x00 ∷ 0x03 ∷ 0xFF ∷ 0xFC ∷ 0x00 ∷ 0x00 ∷ 0x00 ∷ 0x01 ∷ [])
     ∷ measures 0 15
@@ -145,5 +160,7 @@ holds (reorders f us ws sums) =
 holds (multiplies f c r) = equal (star f c) r
 holds (reaches f c y z inside) = equal (zOf f c y) z && sameBool (within (setOf 0 .k - setOf 0 .b) z) inside
 holds (leaves z i) = eqb (firstOutside (setOf 0 .k - setOf 0 .b) z) i
+holds (counts c some none norm) = eqb (nonzeros c) some && (eqb (zeros c) none && eqb (oneNorm c) norm)
+holds (accepts es ok) = sameBool (areEntries (setOf 0 .n) es) ok
 holds (encodes c z xs) = sameNumbers (signatureOf 0 (record { c = c; z = z })) xs
 holds (measures s size) = eqb (signatureSize (setOf s)) size

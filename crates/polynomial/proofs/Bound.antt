@@ -1,4 +1,4 @@
--- Ranges: how large the coefficients of sums, multiples and products can be. The product with a ternary polynomial is within the other factor's weight.
+-- Ranges: how large the coefficients of sums, multiples and products can be. The product with a ternary polynomial is within the other factor's 1-norm.
 -- Assumes nothing.
 use mathlib.Core.Path.{refl, sym, subst}
 use mathlib.Core.List.{List, [], _∷_}
@@ -13,7 +13,8 @@ use Rattle.algebra.proofs.All.{all-from, all-drop}
 use Rattle.algebra.proofs.Test.{and-left, and-right, and-intro}
 use Rattle.algebra.proofs.Absolute.{abs-add, abs-neg, abs-mul}
 use Rattle.algebra.specs.Integer.{within}
-use Rattle.polynomial.specs.Polynomial.{coefficient, add, scale, neg, sub, rotate, star, zOf, ternary, weight}
+use Rattle.polynomial.specs.Polynomial.{coefficient, add, scale, neg, sub, rotate, star, zOf, ternary, oneNorm}
+use Rattle.polynomial.proofs.Norm.{norm-length}
 use Rattle.polynomial.proofs.Linear.{length-rotate, coefficient-add, coefficient-scale, coefficient-neg}
 use Rattle.polynomial.proofs.Rotation.{coefficient-rotations}
 
@@ -65,27 +66,17 @@ within-rotate k (a ∷ f) t =
     (sym (coefficient-rotations (a ∷ f) (suc (length f)) 1 refl (omega arith) i (omega (arith, length-rotate (a ∷ f)))))
     (within-coefficient k (a ∷ f) ((i + (suc (length f) - 1)) % suc (length f)) t))
 
-pub within-star : (f c : List ℤ) → T (ternary f) → T (within (weight c) (star f c))
+pub within-star : (f c : List ℤ) → T (ternary f) → T (within (oneNorm c) (star f c))
 within-star f [] t = tt
 within-star f (a ∷ c) t =
-    within-add (natAbs a) (weight c) (scale a f) (star (rotate f) c) (rw (mul-one (natAbs a)) at (within-scale 1 a f t))
+    within-add (natAbs a) (oneNorm c) (scale a f) (star (rotate f) c) (rw (mul-one (natAbs a)) at (within-scale 1 a f t))
     (within-star (rotate f) c (within-rotate 1 f t))
 
--- a mask within k gives a point within k + b, where the challenge's weight is at most b
-pub z-within : (k b : ℕ) (f c y : List ℤ) → T (ternary f) → weight c ≤ b → T (within k y) → T (within (k + b) (zOf f c y))
-z-within k b f c y t l s = within-mono (omega arith) (zOf f c y) (within-add (weight c) k (star f c) y (within-star f c t) s)
-
--- ---- weights
-weight-ternary : (c : List ℤ) → T (ternary c) → weight c ≤ length c
-weight-ternary [] t = zero-le
-weight-ternary (a ∷ c) t = omega (arith, within-coefficient 1 (a ∷ c) 0 t, weight-ternary c (and-right (leb (natAbs a) 1) (ternary c) t))
-
-weight-take : (i : ℕ) (c : List ℤ) → weight (take i c) ≤ weight c
-weight-take zero c = zero-le
-weight-take (suc i) [] = zero-le
-weight-take (suc i) (a ∷ c) = omega (arith, weight-take i c)
+-- so a mask within k gives a point within k and that
+pub z-within : (k : ℕ) (f c y : List ℤ) → T (ternary f) → T (within k y) → T (within (k + oneNorm c) (zOf f c y))
+z-within k f c y t u = within-mono (omega arith) (zOf f c y) (within-add (oneNorm c) k (star f c) y (within-star f c t) u)
 
 -- the point as a loop over the challenge sums it
 pub partial-within : (k i : ℕ) (f c y : List ℤ) → T (ternary f) → T (ternary c) → T (within k y) → T (within (k + length c) (zOf f (take i c) y))
 partial-within k i f c y s t u =
-    z-within k (length c) f (take i c) y s (le-trans (weight-take i c) (weight-ternary c t)) u
+    within-mono (omega (arith, norm-length (take i c) (within-take 1 i c t), length-take i c)) (zOf f (take i c) y) (z-within k f (take i c) y s u)

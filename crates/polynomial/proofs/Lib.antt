@@ -1,5 +1,7 @@
 pub mod Linear
+pub mod Norm
 pub mod Bound
+pub mod Sparse
 pub mod Ends
 pub mod FirstOutside
 pub mod RangeLoops

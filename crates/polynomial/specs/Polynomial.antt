@@ -57,7 +57,7 @@ zOf f c y = add (star f c) y
 abbrev pub ternary : List ℤ → Bool
 ternary = within 1
 
--- the sum of the absolute values: where each is -1, 0 or 1, the number of coefficients that are not 0
-abbrev pub weight : List ℤ → ℕ
-weight [] = 0
-weight (a ∷ f) = natAbs a + weight f
+-- the 1-norm: the sum of the absolute values
+abbrev pub oneNorm : List ℤ → ℕ
+oneNorm [] = 0
+oneNorm (a ∷ f) = natAbs a + oneNorm f

@@ -16,7 +16,8 @@ use Rattle.polynomial.specs.Polynomial.{sub, star, ternary}
 use Rattle.polynomial.specs.Evaluation.{evaluations, evaluationResidues}
 use Rattle.polynomial.proofs.Linear.{length-star, length-sub, length-z, add-of-sub, sub-of-add}
 use Rattle.polynomial.proofs.SignedForm.{same-residues}
-use Rattle.polynomial.proofs.Bound.{within-mono, within-sub, within-star}
+use Rattle.polynomial.proofs.Bound.{within-mono, within-sub}
+use Rattle.polynomial.proofs.Sparse.{product-within}
 use Rattle.scheme.specs.Scheme.{Drawer, Signature, SparseDrawer}
 use Rattle.scheme.specs.Hiding.{SameSigning}
 use Rattle.scheme.proofs.Attempt.{PassingMask, attempt-iff}
@@ -46,8 +47,7 @@ module _ (draw : Drawer) (p : Params) (exponents message : List ℕ) (h : List �
     other-small =
         within-mono (omega (arith, sound .room)) (other h s)
         (within-sub (p .k - p .b) (p .b) (s .z) (star h (s .c)) (a .range)
-        (within-mono (le-of-eq (draws (evaluationResidues p y exponents) message (s .c) (a .challenge) .full)) (star h (s .c))
-        (within-star h (s .c) ternary-h)))
+        (product-within (draws (evaluationResidues p y exponents) message (s .c) (a .challenge)) h ternary-h))
 
     other-commits : evaluations p (other h s) exponents ≡ evaluations p y exponents
     other-commits =

@@ -3,7 +3,6 @@ pub mod Stated
 pub mod Entry
 pub mod Masks
 pub mod AcceptedSigning
-pub mod EntryCount
 pub mod Answer
 pub mod OfferedMasks
 pub mod Offers

@@ -4,7 +4,6 @@ use mathlib.Core.Path.{_≡_, sym, subst, ap, ap₂, _∙_}
 use mathlib.Core.List.{List}
 use Prim.Native.Nat.{_≤_}
 use native.Mathlib.Omega.{arith}
-use lib.Dec.{T}
 use lib.IntN.{ℤ}
 use lib.ListN.{length, take}
 use borrow.Author.Needs.{needs}
@@ -13,13 +12,13 @@ use Rattle.algebra.proofs.Front.{in-front}
 use Rattle.algebra.proofs.Test.{true-holds}
 use Rattle.encoding.specs.Challenge.{challengeOf}
 use Rattle.encoding.specs.Encoding.{entriesIn}
+use Rattle.encoding.proofs.ReadChallenge.{body-sparse}
 use Rattle.challenge.specs.Draw.{drawChallenge}
-use Rattle.polynomial.specs.Polynomial.{ternary}
+use Rattle.polynomial.specs.Sparse.{Sparse}
 use Rattle.scheme.specs.Scheme.{verdict}
 use Rattle.checking.specs.Check.{bodyRead, checkRefusalOf, answerOn}
 use Rattle.checking.specs.Asks.{ruleOf}
 use Rattle.checking.proofs.Allowed.{ReadAllowed, read-allowed}
-use Rattle.checking.proofs.Ternary.{challenge-ternary}
 use Rattle.checking.proofs.check_in.Statement.{statement}
 use Rattle.checking.proofs.check_in.Tie as tie
 
@@ -61,13 +60,20 @@ c-count c =
 z-count : tie.Need-slice-aggregate-verdict-of-2
 z-count c = let d = c .before .before .before .before .before .before .before .before .before in in-front _ (d .decode-signature .result .z) (z-room d) .count
 
+-- the challenge is that of the signature's entries
+challenge-read : (w : tie.After-challenge-with) →
+    let s = start (w .before .before .before .before .before .before) .args in
+    take (s .p .n) (w .challenge-with .result) ≡ challengeOf (s .p .n) (entriesIn (s .p) (s .signature .now))
+challenge-read w =
+    let d = w .before .before .before .before .before .before in
+    w .challenge-with .ensures ∙ ap (challengeOf (start d .args .p .n)) (d .decode-signature .ensures .0)
+
 verdict-of-requires : tie.Need-verdict-of-requires
 verdict-of-requires c κs =
     let w = c .before .before .before in
     let e = w .before .before in
     let d = e .before .before .before .before in
     let s = start d in
-    let ternary-read = challenge-ternary (s .args .p .n) (take (s .args .p .b) (d .decode-signature .result .entries)) in
     record {
       usable = s .pre .0 .0;
       split = s .pre .0 .1;
@@ -75,8 +81,7 @@ verdict-of-requires c κs =
       exponents-rise = allowed e .exponents-rise;
       evaluations-size = s .pre .1 .1;
       evaluations-below = true-holds (allowed e .evaluations-below);
-      challenge-size = sym (c-count (c .before));
-      challenge-ternary = subst (λ (a : List ℤ). T (ternary a)) (sym (w .challenge-with .ensures)) ternary-read;
+      challenge = subst (Sparse (s .args .p)) (sym (challenge-read w)) (body-sparse _ (s .args .signature .now) (true-holds (allowed e .entries-increase)));
       z-size = sym (z-count c);
     }
 
@@ -91,7 +96,7 @@ verdict-read c =
     let s = start d .args in
     c .verdict-of .ensures
     ∙ ap₂ (λ (a z : List ℤ). ruleOf (s .p) (s .exponents .now) (s .message .now) (s .evaluations .now) a z)
-    (w .challenge-with .ensures ∙ ap (challengeOf (s .p .n)) (d .decode-signature .ensures .0)) (d .decode-signature .ensures .1)
+    (challenge-read w) (d .decode-signature .ensures .1)
 
 returns : tie.Need-returns
 unfolding answerOn

@@ -9,7 +9,7 @@ use Rattle.checking.proofs.recovered_commitment.Tie as tie
 of-challenge : tie.Need-challenge-evaluations-at-requires
 of-challenge c κs =
     let asked = c .before .before .before .pre in
-    ((asked .usable, asked .split, asked .challenge-ternary), (asked .exponents-size, asked .exponents-rise, asked .challenge-size))
+    ((asked .usable, asked .split, asked .challenge .small), (asked .exponents-size, asked .exponents-rise, asked .challenge .size))
 
 of-z : tie.Need-evaluations-at-requires
 of-z c κs =

@@ -44,7 +44,7 @@ challenge-count : tie.Need-slice-aggregate-is-equal
 challenge-count c = in-front _ (c .before .before .before .challenge-of .result .challenge) (challenge-room (c .before)) .count
 
 is-equal-requires : tie.Need-is-equal-requires
-is-equal-requires c κs = start (c .before .before .before .before .before) .pre .challenge-size ∙ challenge-count c
+is-equal-requires c κs = start (c .before .before .before .before .before) .pre .challenge .size ∙ challenge-count c
 
 -- the challenge is drawn from the recovered commitment
 recovered-drawn : (r : tie.After-recovered-commitment) →

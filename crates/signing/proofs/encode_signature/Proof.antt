@@ -10,13 +10,13 @@ use borrow.Author.Needs.{needs}
 use Rattle.algebra.proofs.Front.{InFront, in-front, stored}
 use Rattle.encoding.specs.Challenge.{entriesOf}
 use Rattle.encoding.specs.Encoding.{signatureBytes}
-use Rattle.signing.proofs.EntryCount.{length-entries}
+use Rattle.encoding.proofs.EntryCount.{length-entries}
 use Rattle.signing.proofs.encode_signature.Statement.{statement}
 use Rattle.signing.proofs.encode_signature.Tie as tie
 
 -- b entries
 entry-count : (s : tie.Start) → length (entriesOf (s .args .c .now)) ≡ s .args .p .b
-entry-count s = let a = s .pre .1 .challenge in length-entries 0 (s .args .c .now) (a .small) ∙ a .full
+entry-count s = length-entries 0 (s .args .c .now) ∙ s .pre .1 .challenge .exact
 
 count : tie.Need-slice-aggregate-write-entries
 count c = in-front (c .before .before .args .p .b) (replicate {A = ℕ} 64 0) (search needs) .count
