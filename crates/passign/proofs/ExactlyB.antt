@@ -65,7 +65,7 @@ module _ {p : Params} {c : List ℤ} (challenge : Sparse p c) where
   pub absolute-values : oneNorm c ≡ nonzeros c
   absolute-values = norm-nonzeros c (challenge .small)
 
-  -- so a set of which there is a challenge has b at most N
+  -- so b is at most N in a set that has a challenge
   pub at-most-n : p .b ≤ p .n
   at-most-n = sparse-room challenge
 

@@ -72,7 +72,7 @@ within-star f (a ∷ c) t =
     within-add (natAbs a) (oneNorm c) (scale a f) (star (rotate f) c) (rw (mul-one (natAbs a)) at (within-scale 1 a f t))
     (within-star (rotate f) c (within-rotate 1 f t))
 
--- so a mask within k gives a point within k and that
+-- a mask within k gives a point within k plus the challenge's 1-norm
 pub z-within : (k : ℕ) (f c y : List ℤ) → T (ternary f) → T (within k y) → T (within (k + oneNorm c) (zOf f c y))
 z-within k f c y t u = within-mono (omega arith) (zOf f c y) (within-add (oneNorm c) k (star f c) y (within-star f c t) u)
 

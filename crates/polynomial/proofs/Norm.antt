@@ -16,7 +16,7 @@ use Rattle.polynomial.specs.Sparse.{isZero, zeros, nonzeros}
 pub zeros-nonzeros : (c : List ℤ) → zeros c + nonzeros c ≡ length c
 zeros-nonzeros = count-both isZero
 
--- a coefficient -1, 0 or 1 adds to both what it counts
+-- a coefficient -1, 0 or 1 adds as much to the sum as to the count
 counted : (a : ℤ) (n : ℕ) → natAbs a ≤ 1 → natAbs a + n ≡ cond (not (isZero a)) (suc n) n
 counted (pos zero) n h = omega arith
 counted (pos (suc a)) n h = omega arith

@@ -27,7 +27,7 @@ module _ {p : Params} {c : List ℤ} (s : Sparse p c) where
   pub sparse-zeros : zeros c ≡ p .n - p .b
   sparse-zeros = omega (arith, zeros-nonzeros c, s .size, s .exact)
 
-  -- so a set whose challenges there are has b at most N
+  -- so b is at most N in a set that has a challenge
   pub sparse-room : p .b ≤ p .n
   sparse-room = omega (arith, zeros-nonzeros c, s .size, s .exact)
 
