@@ -82,7 +82,8 @@ uint32_t passign_evaluate(uint8_t set, const int16_t *coefficients, size_t coeff
 uint32_t passign_evaluate_all(uint8_t set, const int16_t *coefficients, size_t coefficients_length,
                               int32_t *evaluations, size_t evaluations_length);
 
-/* Draws the challenge of a pool of 64 to 512 bytes, a multiple of 64, as N coefficients: 0, else the refusal number (1, 2, 11). */
+/* Draws the challenge of a pool of 64 to 512 bytes, a multiple of 64, as N coefficients, exactly b of them 1 or -1 and the others 0:
+   0, else the refusal number (1, 2, 11). */
 uint32_t passign_draw(uint8_t set, const uint8_t *pool, size_t pool_length, int8_t *challenge, size_t challenge_length);
 
 /* Reads a secret key into N coefficients, each -1, 0 or 1: 0, else the refusal number (1, 2, 5). */

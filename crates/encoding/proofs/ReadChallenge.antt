@@ -24,8 +24,8 @@ record ReadFrom (n i : ℕ) (es : List ℕ) (c : List ℤ) : Type 0 where
   exact : nonzeros c ≡ length es
 
 -- an entry gives 1 or -1
-entry-read : (n i e : ℕ) (es : List ℕ) (c : List ℤ) → ReadFrom n (suc i) es c → ReadFrom n i (e ∷ es) (coefficientOf e ∷ c)
-entry-read n i e es c h =
+with-entry : (n i e : ℕ) (es : List ℕ) (c : List ℤ) → ReadFrom n (suc i) es c → ReadFrom n i (e ∷ es) (coefficientOf e ∷ c)
+with-entry n i e es c h =
     let size : i + suc (length c) ≡ n = omega (arith, h .size) in
     cond-by (λ (a : ℤ). ReadFrom n i (e ∷ es) (a ∷ c)) (ltb e 32768) {a = pos 1} {b = negsuc 0}
     (λ _. record { size = size; small = h .small; exact = ap suc (h .exact) })
@@ -36,7 +36,7 @@ read-sparse p es count allowed =
     let n = p .n in
     let h =
     by-coefficient n (ReadFrom n) (record { size = omega arith; small = tt; exact = refl })
-    (λ i e es c is. entry-read n i e es c)
+    (λ i e es c is. with-entry n i e es c)
     (λ i es c h. record { size = omega (arith, h .size); small = h .small; exact = h .exact }) n 0 es (omega arith) allowed in
     record { size = omega (arith, h .size); small = h .small; exact = h .exact ∙ count }
 
