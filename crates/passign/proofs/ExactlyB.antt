@@ -17,8 +17,8 @@ use Rattle.parameters.specs.declared.Params.{Params}
 use Rattle.parameters.specs.Sets.{isSet, setOf}
 use Rattle.polynomial.specs.Polynomial.{coefficient, oneNorm}
 use Rattle.polynomial.specs.Sparse.{Sparse, zeros, nonzeros}
-use Rattle.polynomial.proofs.Norm.{norm-nonzeros}
-use Rattle.polynomial.proofs.Sparse.{sparse-sign, sparse-zeros, sparse-room}
+use Rattle.polynomial.proofs.Norm.{zeros-nonzeros, one-or-minus-one, norm-nonzeros}
+use Rattle.polynomial.proofs.Bound.{within-coefficient}
 use Rattle.challenge.specs.Draw.{draw}
 use Rattle.challenge.proofs.Challenge.{drawn-sparse}
 use Rattle.encoding.specs.Challenge.{areEntries, challengeOf}
@@ -57,17 +57,17 @@ module _ {p : Params} {c : List ℤ} (challenge : Sparse p c) where
   exactly-b-nonzero = challenge .exact
 
   pub plus-or-minus-one : (i : ℕ) → ¬ (coefficient c i ≡ pos 0) → (coefficient c i ≡ pos 1) ⊎ (coefficient c i ≡ negsuc 0)
-  plus-or-minus-one = sparse-sign challenge
+  plus-or-minus-one i = one-or-minus-one (coefficient c i) (within-coefficient 1 c i (challenge .small))
 
   pub the-rest-zero : zeros c ≡ p .n - p .b
-  the-rest-zero = sparse-zeros challenge
+  the-rest-zero = omega (arith, zeros-nonzeros c, challenge .size, challenge .exact)
 
   pub absolute-values : oneNorm c ≡ nonzeros c
   absolute-values = norm-nonzeros c (challenge .small)
 
   -- so b is at most N in a set that has a challenge
   pub at-most-n : p .b ≤ p .n
-  at-most-n = sparse-room challenge
+  at-most-n = omega (arith, zeros-nonzeros c, challenge .size, challenge .exact)
 
 -- the challenge of a signature whose check is not refused, and of one that signing makes
 pub checked : (p : Params) (key signature : List ℕ) → checkRefusalIn p key signature ≡ 0 → Sparse p (signatureRead p signature .c)

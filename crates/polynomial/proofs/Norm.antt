@@ -1,8 +1,9 @@
--- The 1-norm of a ternary polynomial is the number of its coefficients that are not 0, so it is at most the number of all.
+-- The coefficients of a ternary polynomial: those that are not 0 are 1 or -1, so their number is the 1-norm, and at most the number of all.
 -- Assumes nothing.
 use mathlib.Core.Path.{_≡_, refl, ap, _∙_}
 use mathlib.Core.Bool.{not, cond}
 use mathlib.Core.List.{List, [], _∷_}
+use mathlib.Core.Logic.{_⊎_, inl, inr}
 use Prim.Native.Nat.{ℕ, zero, suc, _+_, _≤_}
 use native.Mathlib.Omega.{arith}
 use lib.Dec.{T, leb, leb→le}
@@ -15,6 +16,12 @@ use Rattle.polynomial.specs.Sparse.{isZero, zeros, nonzeros}
 
 pub zeros-nonzeros : (c : List ℤ) → zeros c + nonzeros c ≡ length c
 zeros-nonzeros = count-both isZero
+
+-- a coefficient -1, 0 or 1 that is not 0
+pub one-or-minus-one : (a : ℤ) → natAbs a ≤ 1 → ¬ (a ≡ pos 0) → (a ≡ pos 1) ⊎ (a ≡ negsuc 0)
+one-or-minus-one (pos zero) h n = absurd (n refl)
+one-or-minus-one (pos (suc a)) h n = inl (ap pos (omega arith))
+one-or-minus-one (negsuc a) h n = inr (ap negsuc (omega arith))
 
 -- a coefficient -1, 0 or 1 adds as much to the sum as to the count
 counted : (a : ℤ) (n : ℕ) → natAbs a ≤ 1 → natAbs a + n ≡ cond (not (isZero a)) (suc n) n
