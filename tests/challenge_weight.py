@@ -12,9 +12,13 @@ def written(call, after, name):
     return from_bytes(call.entry, name, after[name][len(GUARD):-len(GUARD)])
 
 
+def in_entries(s, entries):
+    return s, encodings.challenge_of(s, entries)
+
+
 def in_signature(signature):
     s = SETS[signature[0]]
-    return s, encodings.challenge_of(s, encodings.read_signature(s, bytes(signature[1:]))[0])
+    return in_entries(s, encodings.read_signature(s, bytes(signature[1:]))[0])
 
 
 # the set and the challenge, by the entry, of a call and the lent slices after it
@@ -22,7 +26,7 @@ CHALLENGES = {
     "draw": lambda call, after: (SETS[call.arguments["set"]], written(call, after, "out")),
     "sign": lambda call, after: in_signature(written(call, after, "out")),
     "check": lambda call, after: in_signature(call.arguments["signature"]),
-    "read_signature": lambda call, after: in_signature(call.arguments["signature"]),
+    "read_signature": lambda call, after: in_entries(SETS[call.arguments["signature"][0]], written(call, after, "entries")),
     "write_signature": lambda call, after: in_signature(written(call, after, "out")),
 }
 

@@ -101,6 +101,13 @@ def test_encoded_signature():
     assert encodings.challenge_of(HAND, entries) == CHALLENGE and z_read == z
 
 
+def test_accepted_entries():
+    """The indices 2 and 3; one index twice, with one sign and with both; decreasing; N."""
+    rows = (([0x0002, 0x8003], True), ([0x0002, 0x0002], False), ([0x0002, 0x8002], False), ([0x8003, 0x0002], False), ([0x0002, 0x0005], False))
+    for entries, accepted in rows:
+        assert encodings.are_entries(HAND, entries) == accepted
+
+
 def test_readers_and_writers():
     """The encodings of the first case: each reader and its writer."""
     cases = ((library.read_secret_key, library.write_secret_key, "00 01FF000100", (KEY,)),
