@@ -1,18 +1,19 @@
-"""Each session through the kit's program and through the reference: every printed byte must agree."""
+"""Each session through the kit's program and through the reference: every printed byte must agree, and the rows must give each key its account."""
 
 import subprocess
 from collections import Counter
 
+import key_life
 import sessions
 from reference.parameters import SETS
 from reference.session import play_to_the_end
 
-REFUSED_ROWS = {"01 2", "02 4", "03 10", "03 5", "04 8", "04 6", "06 10", "06 9", "07 10", "07 12",
-                "08 10", "08 7", "00 16", "00 13 where a command is due", "0 00 1", "0 00 15"}
-REFUSED_ROWS |= {f"{command:02X} 3" for command in range(2, 9)}
-REFUSED_ROWS |= {f"{command:02X} 13" for command in (1, 2, 3, 4, 5, 7, 8)}
+REFUSED_ROWS = {"01 2", "02 4", "03 10", "03 5", "04 8", "04 6", "06 10", "06 17", "06 9", "07 10", "07 12",
+                "08 10", "08 7", "0A 10", "00 16", "00 13 where a command is due", "0 00 1", "0 00 15"}
+REFUSED_ROWS |= {f"{command:02X} 3" for command in (*range(2, 9), 10)}
+REFUSED_ROWS |= {f"{command:02X} 13" for command in (1, 2, 3, 4, 5, 7, 8, 10)}
 ACCEPTED_ROWS = {"00 0", "01 0", "02 0", "03 0 evaluations", "04 0", "05 0", "06 0 first mask",
-                 "06 0 passed over", "07 0 yes", "07 0 no", "08 0"}
+                 "06 0 passed over", "07 0 yes", "07 0 no", "08 0", "0A 0"}
 ENDS = {"03 0 with (q-1)/2": 1, "03 0 with -(q-1)/2": -1}
 
 
@@ -40,7 +41,7 @@ def missing(forms, by_set):
     wanted = REFUSED_ROWS | ACCEPTED_ROWS | {"14"}
     gaps = [f"no row of form '{text}'" for text in sorted(wanted - set(forms))]
     for number, seen in by_set.items():
-        gaps += [f"no row of form '{text}' in set {number}" for text in sorted((ACCEPTED_ROWS | set(ENDS)) - seen)]
+        gaps += [f"no row of form '{text}' in set {number}" for text in sorted((ACCEPTED_ROWS | set(ENDS) | key_life.SITUATIONS) - seen)]
     return gaps
 
 
@@ -66,7 +67,11 @@ def run(seed, program, only=None):
         rows, number = wanted.decode().splitlines(), int(name.split("/")[0])
         seen = [form(row) for row in rows]
         forms.update(seen)
-        by_set.setdefault(number, set()).update(seen, *(ends_in(row, SETS[number]) for row in rows))
+        situations, fault = key_life.read(file, rows)
+        if fault:
+            report(name, seed, file, fault)
+            return False
+        by_set.setdefault(number, set()).update(seen, situations, *(ends_in(row, SETS[number]) for row in rows))
         played += 1
         if program:
             done = subprocess.run([program], input=file, stdout=subprocess.PIPE)

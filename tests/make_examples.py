@@ -1,8 +1,8 @@
 #!/usr/bin/env python3
 """Writes examples/: the same bytes each time.
 
-sessions/: document 01's session, and for each set one in which a mask is passed over, a signature is accepted and the check says yes. Each
-NAME.session has its rows beside it, NAME.rows, as the reference plays it.
+sessions/: document 01's session, and for each set one in which a mask is passed over, a signature is accepted and the check says yes; key-life
+shows what 0A does. Each NAME.session has its rows beside it, NAME.rows, as the reference plays it.
 marker/: a public key, a message and a signature of set 1 that the check says yes to.
 """
 
@@ -33,8 +33,17 @@ def signed_and_checked(s):
     return bytes(w.file)
 
 
+def life_of_a_key(file):
+    """Of a session of set 0: what it loads, with grants of 0A between; 06 is 10, 17, 9, and signs once."""
+    start, key, message, masks = file[:11], file[11:17], file[17:82], file[82:104]
+    wrong_key = key[:1] + b"\x02" + key[2:]
+    none, one, sign = b"\x0a\0\0", b"\x0a\0\1", b"\x06"
+    return b"".join((start, one, key, none, sign, message, sign, masks, sign, wrong_key, sign, one, sign, sign, key, sign, b"\0"))
+
+
 def examples():
     yield "document", TRANSCRIPT_FILE
+    yield "key-life", life_of_a_key(signed_and_checked(SETS[0]))
     for s in SETS:
         yield f"set-{s.number}", signed_and_checked(s)
 

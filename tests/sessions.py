@@ -106,8 +106,13 @@ def evaluations_operand(w, mistakes):
     return encodings.number_bytes(public, 3)
 
 
+def grant_operand(w, mistakes):
+    return w.rng.choice((0, 1, 2, 65535, w.rng.randrange(65536))).to_bytes(2, "big")
+
+
 OPERANDS = {0x01: set_operand, 0x02: points_operand, 0x03: key_operand, 0x04: mask_operand,
-            0x05: message_operand, 0x06: nothing, 0x07: signature_operand, 0x08: evaluations_operand}
+            0x05: message_operand, 0x06: nothing, 0x07: signature_operand, 0x08: evaluations_operand,
+            0x0A: grant_operand}
 
 
 def add(w, command, mistakes=0.0):
@@ -199,7 +204,7 @@ def many_masks(rng, s):
 
 
 def walk_on(w, steps, mistakes):
-    commands = (0x01, 0x02, 0x03, 0x04, 0x04, 0x04, 0x05, 0x06, 0x06, 0x07, 0x07, 0x08)
+    commands = (0x01, 0x02, 0x03, 0x04, 0x04, 0x04, 0x05, 0x06, 0x06, 0x07, 0x07, 0x08, 0x0A)
     for _ in range(steps):
         add(w, w.rng.choice(commands), mistakes)
     return w
@@ -279,8 +284,86 @@ def cut_inside(command):
     return make
 
 
+def grant(w, number):
+    w.add(0x0A, number.to_bytes(2, "big"))
+
+
+def add_passing(w):
+    w.add(0x04, encodings.number_bytes(material.passing_mask(w.rng, w.set), 2, signed=True))
+
+
+def spent(rng, s):
+    """0A without a key; then 06 behind 10, 17 and 9 in turn, with a mask and without; a refused 03 renews nothing, an accepted one all."""
+    w = Writer(rng, s)
+    for command in (0x01, 0x02, 0x0A, 0x03):
+        add(w, command)
+    grant(w, 0)
+    for command in (0x06, 0x05, 0x06):
+        add(w, command)
+    add_passing(w)
+    add(w, 0x06)
+    add(w, 0x03, 1)
+    add(w, 0x06)
+    number = rng.randint(1, 3 if s.number == 0 else 1)
+    grant(w, number)
+    for _ in range(number + 1):
+        add(w, 0x06)
+        if rng.random() < 0.5:
+            add(w, 0x06)
+        add_passing(w)
+    add(w, 0x03)
+    add(w, 0x06)
+    w.add(0x00)
+    return bytes(w.file)
+
+
+def lives(rng, s):
+    """Several grants and loadings, with many 06: what forgets the key forgets its number, and what is refused takes nothing off."""
+    w = begun(rng, s)
+    for _ in range(rng.randint(10, 50) if s.number == 0 else 6):
+        turn = rng.random()
+        if turn < 0.2:
+            grant(w, rng.choice((0, 1, 1, 2, 3, 65535)))
+        elif turn < 0.3:
+            for command in rng.choice(((0x03,), (0x08, 0x03), (0x02, 0x03), (0x01, 0x02, 0x03, 0x05))):
+                add(w, command, MISTAKE)
+        elif turn < 0.6:
+            add_passing(w)
+        add(w, 0x06)
+    w.add(0x00)
+    return bytes(w.file)
+
+
+def forgotten(rng, s):
+    """A grant, and what forgets it with the key: a key that is loaded again has its own number."""
+    w = begun(rng, s)
+    ways = [(0x08, 0x03), (0x02, 0x03), (0x01, 0x02, 0x03, 0x05)]
+    rng.shuffle(ways)
+    for commands in ways:
+        grant(w, rng.randint(0, 1))
+        for command in commands:
+            add(w, command)
+        add_passing(w)
+        add(w, 0x06)
+    w.add(0x00)
+    return bytes(w.file)
+
+
+def many_signatures(rng, s):
+    """As many 06 as were granted, each with its mask, and then more."""
+    w = begun(rng, s)
+    number = rng.randint(10, 60) if s.number == 0 else 2
+    grant(w, number)
+    for _ in range(number + 2):
+        if not w.session.masks:
+            add_passing(w)
+        add(w, 0x06)
+    w.add(0x00)
+    return bytes(w.file)
+
+
 def good(rng, s):
-    return rng.choice((signing, passed_over, walk, repeated))(rng, s)
+    return rng.choice((signing, passed_over, walk, repeated, lives))(rng, s)
 
 
 def cut(rng, s):
@@ -304,7 +387,7 @@ def flipped(rng, s):
 def unknown(rng, s):
     w = begun(rng, s)
     walk_on(w, rng.randint(0, 3), MISTAKE)
-    return bytes(w.file) + bytes([rng.choice((9, 10, 0x1A, 0xAF, 255, rng.randint(9, 255)))]) + b"\0"
+    return bytes(w.file) + bytes([rng.choice((9, 0x1A, 0xAF, 255, rng.randint(11, 255)))]) + b"\0"
 
 
 def wrong_tag(rng, s):
@@ -319,7 +402,7 @@ def after_end(rng, s):
 
 def any_bytes(rng, s):
     length = rng.randint(0, 80)
-    body = bytes(rng.choice((*range(9), rng.randrange(256))) for _ in range(length))
+    body = bytes(rng.choice((*range(11), rng.randrange(256))) for _ in range(length))
     return TAG_BYTES + bytes([1, s.number]) + body
 
 
@@ -337,11 +420,12 @@ KINDS = {"signing": signing, "passed over": passed_over, "many masks": many_mask
          "repeated": repeated, "forgets": forgets, "two mistakes": two_mistakes, "cut": cut,
          "cut by one": cut_by_one, "flipped": flipped, "unknown": unknown, "wrong tag": wrong_tag,
          "after end": after_end, "any bytes": any_bytes, "longest": longest,
-         "upper end": key_at_end(1), "lower end": key_at_end(-1), "corners": corners}
-KINDS |= {f"{command:02X} before 01": before_set(command) for command in range(2, 9)}
-KINDS |= {f"cut inside {command:02X}": cut_inside(command) for command in (1, 2, 3, 4, 5, 7, 8)}
+         "upper end": key_at_end(1), "lower end": key_at_end(-1), "corners": corners,
+         "spent": spent, "lives": lives, "forgotten": forgotten, "many signatures": many_signatures}
+KINDS |= {f"{command:02X} before 01": before_set(command) for command in (*range(2, 9), 10)}
+KINDS |= {f"cut inside {command:02X}": cut_inside(command) for command in (1, 2, 3, 4, 5, 7, 8, 10)}
 # One for so many repeats; the kinds for one command are many.
-SELDOM = {"longest": 10, "wrong tag": 3, "upper end": 4, "lower end": 4, "corners": 4,
+SELDOM = {"longest": 10, "wrong tag": 3, "spent": 2, "forgotten": 4, "many signatures": 4, "upper end": 4, "lower end": 4, "corners": 4,
           **{kind: 10 for kind in KINDS if "before 01" in kind or "cut inside" in kind}}
 OFTEN = {"signing": 2, "walk": 3, "repeated": 2, "flipped": 2}
 

@@ -1,4 +1,4 @@
-"""Document 01, "Refusals, by who can cause them"."""
+"""Document 01, "Refusals, by who can cause them", and document 02."""
 
 # Caller of the library
 LENGTH = 1
@@ -13,6 +13,7 @@ FILE_ENDS = 13
 UNKNOWN_COMMAND = 14
 TAG = 15
 BYTES_AFTER_END = 16
+NONE_LEFT = 17
 
 # Owner of key and masks
 EXPONENTS = 4

@@ -1,4 +1,4 @@
-"""Document 01, "The session file": opening a session and playing it, one command at a time."""
+"""Document 01, "The session file", and document 02: opening a session and playing it, one command at a time."""
 
 from typing import NamedTuple
 
@@ -7,12 +7,13 @@ from .parameters import SETS
 from .polynomials import are_evaluations, are_points, evaluation_residues, evaluations, is_key, is_mask
 from .refusals import (BYTES_AFTER_END, CHALLENGE_INDEX, EIGHT_MASKS_HELD, END_THE_SESSION, EVALUATION,
                        EXPONENTS, FILE_ENDS, KEY_VALUE, LENGTH, MASK_COEFFICIENT, NOT_HELD,
-                       NO_MASK_PASSES, NO_SET_YET, Refused, SET, TAG, UNKNOWN_COMMAND, refuse_unless)
+                       NONE_LEFT, NO_MASK_PASSES, NO_SET_YET, Refused, SET, TAG, UNKNOWN_COMMAND, refuse_unless)
 
 MOST_FILE_BYTES = 65536
 ROW_BUFFER_BYTES = 16384
 MESSAGE_BYTES = 64
 MOST_MASKS_HELD = 8
+SIGNATURES_OF_A_LOADED_KEY = 65535
 TAG_BYTES = bytes.fromhex("50534731")
 
 
@@ -24,6 +25,7 @@ class Session(NamedTuple):
     set: tuple = None
     points: list = None
     key: list = None
+    left: int = None  # signatures that the key may still give
     evaluations: list = None
     message: bytes = None
     masks: tuple = ()
@@ -85,7 +87,7 @@ def play_command(session, file, rows):
 def operand_of(session, command, file):
     """Tests 14, 3, 13; a file that ends where a command is due is 13 too."""
     refuse_unless(command is not None, FILE_ENDS)
-    refuse_unless(command <= 0x08, UNKNOWN_COMMAND)
+    refuse_unless(command == 0x00 or command in PLAYED, UNKNOWN_COMMAND)
     refuse_unless(command in (0x00, 0x01) or session.set is not None, NO_SET_YET)
     length = operand_length(session.set, command)
     operand = file[session.place + 1:session.place + 1 + length]
@@ -99,7 +101,7 @@ def operand_length(s, command):
     if command == 0x01:
         return 1
     return {0x02: 2 * s.t, 0x03: s.N, 0x04: 2 * s.N, 0x05: MESSAGE_BYTES,
-            0x07: 2 * s.b + 2 * s.N, 0x08: 3 * s.t}[command]
+            0x07: 2 * s.b + 2 * s.N, 0x08: 3 * s.t, 0x0A: 2}[command]
 
 
 def write_row(rows, ordinal, command, number, *fields):
@@ -118,7 +120,7 @@ def hold_set(session, operand):
 def hold_points(session, operand):
     points = encodings.numbers(operand, 2)
     refuse_unless(are_points(session.set, points), EXPONENTS)
-    return session._replace(points=points, key=None, evaluations=None), ()
+    return session._replace(points=points, key=None, left=None, evaluations=None), ()
 
 
 def hold_key(session, operand):
@@ -126,7 +128,8 @@ def hold_key(session, operand):
     key = encodings.read_key(operand)
     refuse_unless(is_key(key), KEY_VALUE)
     public = evaluation_residues(session.set, key, session.points)
-    return session._replace(key=key, evaluations=public), evaluations(session.set, key, session.points)
+    held = session._replace(key=key, left=SIGNATURES_OF_A_LOADED_KEY, evaluations=public)
+    return held, evaluations(session.set, key, session.points)
 
 
 def hold_mask(session, operand):
@@ -143,12 +146,13 @@ def hold_message(session, operand):
 def sign(session, operand):
     needed = (session.points, session.key, session.message)
     refuse_unless(None not in needed, NOT_HELD)
+    refuse_unless(session.left > 0, NONE_LEFT)
     s = session.set
     signed = signing.sign(s, session.key, session.points, session.masks, session.message)
     refuse_unless(signed is not None, NO_MASK_PASSES)
     signature = encodings.write_signature(s, signed.challenge, signed.z)
     kept = session.masks[signed.passed_over + 1:]
-    return session._replace(masks=kept), (signed.passed_over, signature.hex().upper())
+    return session._replace(masks=kept, left=session.left - 1), (signed.passed_over, signature.hex().upper())
 
 
 def check(session, operand):
@@ -166,11 +170,16 @@ def hold_evaluations(session, operand):
     refuse_unless(session.points is not None, NOT_HELD)
     public = encodings.numbers(operand, 3)
     refuse_unless(are_evaluations(session.set, public), EVALUATION)
-    return session._replace(evaluations=public, key=None), ()
+    return session._replace(evaluations=public, key=None, left=None), ()
+
+
+def grant(session, operand):
+    refuse_unless(session.key is not None, NOT_HELD)
+    return session._replace(left=int.from_bytes(operand, "big")), ()
 
 
 PLAYED = {0x01: hold_set, 0x02: hold_points, 0x03: hold_key, 0x04: hold_mask,
-          0x05: hold_message, 0x06: sign, 0x07: check, 0x08: hold_evaluations}
+          0x05: hold_message, 0x06: sign, 0x07: check, 0x08: hold_evaluations, 0x0A: grant}
 
 
 def play_to_the_end(file):

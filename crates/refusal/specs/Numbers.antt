@@ -1,4 +1,4 @@
--- Document 01, "Refusals, by who can cause them": the refusal numbers by name. 0 is no refusal.
+-- Document 01, "Refusals, by who can cause them", and document 02: the refusal numbers by name. 0 is no refusal.
 -- Assumes nothing.
 use Prim.Native.Nat.{ℕ}
 
@@ -10,7 +10,7 @@ wrongLength = 1
 abbrev pub wrongSet : ℕ
 wrongSet = 2
 
--- command 02 to 08 before an accepted 01
+-- command 02 to 08 or 0A before an accepted 01
 abbrev pub noSet : ℕ
 noSet = 3
 
@@ -65,3 +65,7 @@ wrongTag = 15
 -- bytes after 00
 abbrev pub bytesAfterEnd : ℕ
 bytesAfterEnd = 16
+
+-- the held key has no signature left
+abbrev pub noneLeft : ℕ
+noneLeft = 17

@@ -5,7 +5,7 @@ ghost use Rattle.parameters.specs.declared.Params.{Params};
 ghost use Rattle.refusal.specs.Answer.{inSetOf};
 use parameters::is_set;
 
-// Document 01, "Refusals, by who can cause them". 0 is no refusal.
+// Document 01, "Refusals, by who can cause them", and document 02. 0 is no refusal.
 pub const WRONG_LENGTH: u32 = 1;
 
 pub const WRONG_SET: u32 = 2;
@@ -37,6 +37,8 @@ pub const UNKNOWN_COMMAND: u32 = 14;
 pub const WRONG_TAG: u32 = 15;
 
 pub const BYTES_AFTER_END: u32 = 16;
+
+pub const NONE_LEFT: u32 = 17;
 
 // One test of a chain of refusals: the number where it fails, else what the tests after it give.
 pub fn unless(holds: bool, number: u32, rest: u32) -> u32

@@ -28,6 +28,7 @@ moved f next ordinal =
       evaluations = f .evaluations;
       message = f .message;
       count = f .count;
+      left = f .left;
     }
 
 pub going : (s : Session) (next byte ordinal : ℕ) (op : List ℕ) → ordinal ≡ s .rows + 1 → ordinal < next

@@ -9,6 +9,7 @@ pub mod FirstPassingOfPlays
 pub mod VerdictsOfPlays
 pub mod PrintedEvaluationsOfPlays
 pub mod HidingOfPlays
+pub mod KeyLifeOfPlays
 pub mod EndOfPlays
 pub mod OrdinalsOfPlays
 pub mod RefusalsOfPlays

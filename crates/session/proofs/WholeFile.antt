@@ -1,6 +1,6 @@
 -- What holds of a file that `play_file`, or the program `play`, has played: its contract alone (`PlayedWhole`) gives the turns, and with them all that is
 -- proved of the code's plays. The commands played are the file, up to a last row; each accepted 03 prints the key's evaluations in signed form, each accepted
--- 06 signs with the first mask that passes, and each accepted 07 prints the paper's verdict; every accepted signature hides its key.
+-- 06 signs with the first mask that passes, and each accepted 07 prints the paper's verdict; every accepted signature hides its key; each key has its life.
 -- Assumes nothing.
 use mathlib.Core.List.{List}
 use Prim.Native.Nat.{ℕ}
@@ -11,7 +11,9 @@ use Rattle.session_rules.specs.FirstPassing.{EachSignsByFirst}
 use Rattle.session_rules.specs.Verdicts.{EachVerdict}
 use Rattle.session_rules.specs.PrintedEvaluations.{EachEvaluations}
 use Rattle.session_rules.specs.KeysHidden.{KeysHidden}
+use Rattle.session_rules.specs.KeyLife.{KeyLife}
 use Rattle.session.specs.declared.Session as code
+use Rattle.session.specs.Session.{sessionOf}
 use Rattle.session.specs.Turns.{turnEvents}
 use Rattle.session.specs.WholeFile.{PlayedWhole}
 use Rattle.session.proofs.FileOfPlays.{plays-are-the-file}
@@ -19,6 +21,7 @@ use Rattle.session.proofs.FirstPassingOfPlays.{first-passing-signs-in-p
 use Rattle.session.proofs.VerdictsOfPlays.{verdicts-by-the-rule-in-plays}
 use Rattle.session.proofs.PrintedEvaluationsOfPlays.{evaluations-printed-in-plays}
 use Rattle.session.proofs.HidingOfPlays.{hiding-of-plays}
+use Rattle.session.proofs.KeyLifeOfPlays.{key-life-in-plays}
 
 module _ (file : List ℕ) (s : code.Session) (w : PlayedWhole file s) where
   -- the commands that were played
@@ -41,3 +44,6 @@ module _ (file : List ℕ) (s : code.Session) (w : PlayedWhole file s) where
 
   pub whole-file-hides : KeysHidden wholeEvents
   whole-file-hides = let p = w .played in hiding-of-plays (p .first) (p .opens) file (p .turns) (p .allowed)
+
+  pub whole-file-key-life : KeyLife wholeEvents (sessionOf s .held)
+  whole-file-key-life = let p = w .played in rw (p .last) at (key-life-in-plays (p .first) (p .opens) file (p .turns) (p .allowed))

@@ -74,6 +74,7 @@ pub fn open() -> Session
         evaluations: false,
         message: false,
         count: 0,
+        left: 0,
     };
     Session {
         flags: flags,

@@ -9,7 +9,7 @@ use borrow.Author.Tests.{not-false}
 use Rattle.parameters.specs.declared.Params.{Params}
 use Rattle.parameters.specs.Sets.{isSet}
 use Rattle.session_rules.specs.Held.{Held}
-use Rattle.session_rules.specs.CommandTable.{commandOf}
+use Rattle.session_rules.specs.CommandTable.{isKnown, commandOf}
 use Rattle.session_rules.specs.Commands.{commandIn, command}
 use Rattle.session_rules.specs.Play.{lacksSet}
 use Rattle.session_rules.proofs.CommandTable.{needs-set, command-in}
@@ -24,8 +24,8 @@ use Rattle.session_commands.specs.Table.{Entry, entryOf, entryIn, readyT
 use Rattle.session_commands.proofs.LookedUp.{below}
 use Rattle.session_commands.proofs.Readiness.{ready-held}
 
--- 02 to 08 have a set in force
-pub in-force : (set b : ℕ) → b < 9 → 1 < b → lacksSet b (setHeld set) ≡ false → isSet set ≡ true
+-- all but 00 and 01 have a set in force
+pub in-force : (set b : ℕ) → isKnown b ≡ true → 1 < b → lacksSet b (setHeld set) ≡ false → isSet set ≡ true
 in-force set b l h e = not-false (isSet set) (rw (needs-set b l h, is-held) at e)
 
 module _ (p : Params) (flags : Flags) (e k v : List ℕ) (m : List ℤ) (t : List ℕ) (b : ℕ) where

@@ -7,15 +7,17 @@ use Prim.Native.Nat.{ℕ, _+_, _*_, _≤_}
 use native.Mathlib.Omega.{arith}
 use lib.IntN.{ℤ}
 use lib.ListN.{length, take}
+use borrow.Author.Tests.{ne-eqb}
 use Rattle.parameters.specs.declared.Params.{Params}
 use Rattle.challenge.specs.Draw.{drawChallenge}
 use Rattle.encoding.specs.Encoding.{areExponents, areEvaluations, publicKey}
+use Rattle.refusal.specs.Numbers.{noneLeft}
 use Rattle.refusal.specs.declared.Signing.{Signing}
 use Rattle.refusal.specs.declared.Verdict.{Verdict}
 use Rattle.signing.specs.Sign.{signAnswer, signWritten}
 use Rattle.checking.specs.Check.{answerOn, checkAnswer}
 use Rattle.checking.proofs.Encoded.{encoded-answer}
-use Rattle.session_rules.specs.Commands.{signatureRoom, afterSigning, sign, afterCheck, check}
+use Rattle.session_rules.specs.Commands.{refused, signatureRoom, afterSigning, sign, afterCheck, check}
 use Rattle.session_state.specs.Room.{messageSize}
 use Rattle.session_state.specs.declared.Flags.{Flags}
 use Rattle.session_state.specs.State.{hasExponents, hasEvaluations, masksHeld, chosenIn, heldIn}
@@ -34,14 +36,18 @@ all-three true false c e = absurd (true≢false (sym e))
 all-three false b c e = absurd (true≢false (sym e))
 
 module _ (p : Params) (flags : Flags) (e k v : List ℕ) (m : List ℤ) (t : List ℕ) where
-  -- 06
-  pub signs : AllThree (hasExponents p (flags .exponents) e) (flags .key) (flags .message) → {a : Signing}
+  -- 06, where signatures are left, and where none is
+  pub signs : AllThree (hasExponents p (flags .exponents) e) (flags .key) (flags .message) → (flags .left ≡ 0 → ⊥) → {a : Signing}
       → a ≡ signAnswer (flags .set ∷ take (p .n) k) (take (p .t) e) (flatten (masksHeld (p .n) (flags .count) m)) t (signatureRoom p)
       → sign (chosenIn p (flags .set)) (heldIn p flags e k v m t)
       ≡ afterSigning (chosenIn p (flags .set)) (heldIn p flags e k v m t) a
       (signWritten (flags .set ∷ take (p .n) k) (take (p .t) e) (flatten (masksHeld (p .n) (flags .count) m)) t (signatureRoom p))
   unfolding sign heldIn
-  signs held told = rw (held .first, held .second, held .third, told)
+  signs held some told = rw (held .first, held .second, held .third, ne-eqb (flags .left) 0 some, told)
+
+  pub spent : flags .key ≡ true → flags .left ≡ 0 → sign (chosenIn p (flags .set)) (heldIn p flags e k v m t) ≡ refused noneLeft (heldIn p flags e k v m t)
+  unfolding sign heldIn
+  spent key none = rw (key, none)
 
   -- 07
   pub checks : (op : List ℕ) → AllThree (hasExponents p (flags .exponents) e) (hasEvaluations p (flags .evaluations) v) (flags .message) → {a : Verdict}

@@ -19,3 +19,4 @@ ready-held p flags e k v m t needs.Nothing = refl
 ready-held p flags e k v m t needs.ToLoad = is-held _ _
 ready-held p flags e k v m t needs.ToSign = simp is-held
 ready-held p flags e k v m t needs.ToCheck = simp is-held
+ready-held p flags e k v m t needs.ToGrant = is-held _ _

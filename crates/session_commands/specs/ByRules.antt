@@ -72,6 +72,9 @@ module _ (p : Params) (flags : Flags) (op : List ℕ) (r : CommandResult) where
       (k : List ℕ) (m : List ℤ) (s : List ℕ)
       → By (λ c h. rules.check c h op) p flags r (lent exponents) (kept k) (lent evaluations) (kept m) (lent message) s
 
+  abbrev pub ByGrant : Type 0
+  ByGrant = (e k v : List ℕ) (m : List ℤ) (t s : List ℕ) → By (λ c h. rules.grant c h op) p flags r (kept e) (kept k) (kept v) (kept m) (kept t) s
+
 -- the library's signing with what is held: its answer, and where it signs the bytes in front
 module _ (p : Params) (flags : Flags) (answer : Signing) (exponents key : Slice ℕ) (masks : Slice ℤ) (message signature : Slice ℕ) where
   abbrev pub callHeld : {A : Type 0} → (List ℕ → List ℕ → List ℤ → List ℕ → List ℕ → A) → A
@@ -89,12 +92,12 @@ BySign p flags r exponents key masks message signature =
     (v : List ℕ) → By rules.sign p flags r (lent exponents) (lent key) (kept v) (lent masks) (lent message) (signature .exit .now)
 
 module _ (byte : ℕ) (op : List ℕ) (r : CommandResult) (exponents key evaluations : Slice ℕ) (masks : Slice ℤ) (message signature : Slice ℕ) where
-  -- 02 to 08, by the byte
+  -- all but 01, by the byte
   abbrev pub ByCommandIn : Params → Flags → Type 0
   ByCommandIn p flags =
       By (λ c h. rules.commandIn c h byte op) p flags r (lent exponents) (lent key) (lent evaluations) (lent masks) (lent message) (signature .exit .now)
 
-  -- 01 to 08
+  -- all but 00
   abbrev pub ByCommand : Flags → Type 0
   ByCommand flags =
       resultOf r (exponents .exit .now) (key .exit .now) (evaluations .exit .now) (masks .exit .now) (message .exit .now) (signature .exit .now)

@@ -1,11 +1,11 @@
-// The commands of a session file, 01 to 08: each a function over flags, its operand and the arrays that it needs, and one dispatch by the byte.
+// The commands of a session file other than 00: each a function over flags, its operand and the arrays that it needs, and one dispatch by the byte.
 ghost use mathlib.Core.Path.{_≡_};
 ghost use mathlib.Core.Bool.{true, false};
 ghost use Prim.Native.Nat.{_≤_, _<_};
 ghost use lib.ListN.{length};
 ghost use Rattle.parameters.specs.Sets.{setOf};
 ghost use Rattle.parameters.specs.Sound.{Limited};
-ghost use Rattle.session_rules.specs.CommandTable.{commandOf};
+ghost use Rattle.session_rules.specs.CommandTable.{isKnown, commandOf};
 ghost use Rattle.session_rules.specs.Play.{lacksSet};
 ghost use Rattle.session_state.specs.State.{setHeld};
 ghost use Rattle.session_commands.specs.Asks.{InSet, Ready, Sizes};
@@ -18,6 +18,7 @@ use crate::loading::load_exponents;
 use crate::loading::load_key;
 use crate::loading::load_mask;
 use crate::loading::load_message;
+use crate::signer::grant;
 use crate::signer::sign_held;
 use parameters::Params;
 use parameters::params_of;
@@ -33,12 +34,13 @@ mod checker;
 mod loading;
 mod signer;
 
-// What a command needs held: nothing; points; points, key, message; points, evaluations, message.
+// What a command needs held: nothing; points; points, key, message; points, evaluations, message; a key.
 pub enum Needs {
     Nothing,
     ToLoad,
     ToSign,
     ToCheck,
+    ToGrant,
 }
 
 // An entry: whether the byte is a command, whether it needs a set, how many bytes its operand has in the set in force, and what it needs held.
@@ -87,6 +89,7 @@ fn form_in(p: Params, byte: u8) -> Form
         6 => entry(true, 0, Needs::ToSign),
         7 => entry(true, 2 * p.b + 2 * p.n, Needs::ToCheck),
         8 => entry(true, 3 * p.t, Needs::ToLoad),
+        10 => entry(true, 2, Needs::ToGrant),
         _ => unknown(),
     }
 }
@@ -112,6 +115,7 @@ fn is_ready(p: Params, flags: Flags, needs: Needs, exponents: &[u16], evaluation
             let points = has_exponents(p, flags.exponents, exponents);
             points & (has_evaluations(p, flags.evaluations, evaluations) & flags.message)
         }
+        Needs::ToGrant => flags.key,
     }
 }
 
@@ -126,7 +130,7 @@ pub fn plain(number: u32, flags: Flags) -> CommandResult
     }
 }
 
-// 02 to 08 in a set, with all that the command needs held.
+// All but 01 in a set, with all that the command needs held.
 fn run_in(
     p: Params,
     flags: Flags,
@@ -139,7 +143,7 @@ fn run_in(
     message: &mut [u8],
     signature: &mut [u8],
 ) -> CommandResult
-    requires { ⌜ InSet p (flags .set) × (1 < byte) × (byte < 9) × (length (now operand) ≡ commandOf byte .size p) ⌝ }
+    requires { ⌜ InSet p (flags .set) × (1 < byte) × (isKnown byte ≡ true) × (length (now operand) ≡ commandOf byte .size p) ⌝ }
     requires { ⌜ Sizes (now exponents) (now key) (now evaluations) (now masks) (now message) (now signature) ⌝ }
     requires { ⌜ Ready p flags byte (now exponents) (now evaluations) ⌝ }
     ensures result { λ r. ⌜ ByCommandIn byte (now (operand .entry)) r exponents key evaluations masks message signature p flags ⌝ }
@@ -152,11 +156,12 @@ fn run_in(
         5 => load_message(p, flags, operand, message),
         6 => sign_held(p, flags, exponents, key, masks, message, signature),
         7 => check_held(p, flags, operand, exponents, evaluations, message),
-        _ => load_evaluations(p, flags, operand, key, evaluations),
+        8 => load_evaluations(p, flags, operand, key, evaluations),
+        _ => grant(p, flags, operand),
     }
 }
 
-// 01 to 08, where 02 to 08 have a set in force: 10 where something that the command needs is not held.
+// A command other than 00, with a set in force where it needs one: 10 where something that it needs is not held.
 pub fn run_command(
     flags: Flags,
     byte: u8,
@@ -168,7 +173,7 @@ pub fn run_command(
     message: &mut [u8],
     signature: &mut [u8],
 ) -> CommandResult
-    requires { ⌜ (0 < byte) × (byte < 9) × (lacksSet byte (setHeld (flags .set)) ≡ false) ⌝ }
+    requires { ⌜ (0 < byte) × (isKnown byte ≡ true) × (lacksSet byte (setHeld (flags .set)) ≡ false) ⌝ }
     requires { ⌜ length (now operand) ≡ commandOf byte .size (setOf (flags .set)) ⌝ }
     requires { ⌜ Sizes (now exponents) (now key) (now evaluations) (now masks) (now message) (now signature) ⌝ }
     ensures { λ r. ⌜ ByCommand byte (now (operand .entry)) r exponents key evaluations masks message signature flags ⌝ }

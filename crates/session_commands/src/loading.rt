@@ -36,6 +36,7 @@ use refusal::WRONG_MASK;
 use refusal::WRONG_SET;
 use session_state::Added;
 use session_state::CommandResult;
+use session_state::FIRST_GRANT;
 use session_state::Flags;
 use split_tables::SPLIT_ROOM;
 use split_tables::look_up;
@@ -141,7 +142,7 @@ pub fn load_evaluations(
     plain(0, with_evaluations)
 }
 
-// 03. The evaluations are held in 0..q-1.
+// 03, with the first grant. The evaluations are held in 0..q-1.
 pub fn load_key(
     p: Params,
     flags: Flags,
@@ -177,6 +178,7 @@ pub fn load_key(
     copy_u8(operand, &mut key[..n]);
     let mut next = flags;
     next.key = true;
+    next.left = FIRST_GRANT;
     next.evaluations = true;
     CommandResult {
         number: 0,

@@ -1,4 +1,4 @@
-// Command 06: the library's signing with what is held.
+// Commands 06, the library's signing with what is held, and 0A, the signatures that the key held may still give.
 ghost use mathlib.Core.Path.{_≡_};
 ghost use mathlib.Core.Bool.{true, _&&_, cond};
 ghost use Prim.Native.Nat.{_+_, _≤_};
@@ -9,10 +9,12 @@ ghost use Rattle.refusal.specs.Numbers.{nonePasses};
 ghost use Rattle.session_state.specs.Room.{maskRoom, messageSize, maxSignature};
 ghost use Rattle.session_state.specs.State.{hasExponents, masksHeld};
 ghost use Rattle.session_commands.specs.Asks.{InSet};
-ghost use Rattle.session_commands.specs.ByRules.{SignedHeld, BySign};
+ghost use Rattle.session_commands.specs.ByRules.{SignedHeld, BySign, ByGrant};
 use crate::plain;
+use encoding::numbers::number16_at;
 use encoding::signature::signature_size;
 use parameters::Params;
+use refusal::NONE_LEFT;
 use refusal::NONE_PASSES;
 use refusal::Signing;
 use session_state::Added;
@@ -82,7 +84,7 @@ fn masks_left(number: u32, count: usize) -> usize
     if number == NONE_PASSES { 0 } else { count }
 }
 
-// 06. Masks up to and with the one used are dropped.
+// 06: 17 where no signature is left. Masks up to and with the one used are dropped, and one signature is taken off.
 pub fn sign_held(
     p: Params,
     flags: Flags,
@@ -98,11 +100,15 @@ pub fn sign_held(
     ensures result { λ r. ⌜ BySign p flags r exponents key masks message signature ⌝ }
     ensures set { λ r. ⌜ r .flags .set ≡ flags .set ⌝ }
 {
+    if flags.left == 0 {
+        return plain(NONE_LEFT, flags);
+    }
     let answer = sign_with(p, flags, exponents, key, masks, message, signature);
     let mut next = flags;
     match answer {
         Signing::Signed(passed) => {
             next.count = drop_masks(p.n, masks, flags.count, passed as usize + 1);
+            next.left = flags.left - 1;
             CommandResult {
                 number: 0,
                 flags: next,
@@ -114,4 +120,15 @@ pub fn sign_held(
             plain(number, next)
         }
     }
+}
+
+// 0A. The number is set, whatever it was.
+pub fn grant(p: Params, flags: Flags, operand: &[u8]) -> CommandResult
+    requires { ⌜ length (now operand) ≡ 2 ⌝ }
+    ensures result { λ r. ⌜ ByGrant p flags (now (operand .entry)) r ⌝ }
+    ensures set { λ r. ⌜ r .flags .set ≡ flags .set ⌝ }
+{
+    let mut next = flags;
+    next.left = number16_at(operand, 0);
+    plain(0, next)
 }

@@ -17,7 +17,6 @@ use Rattle.session_rules.specs.Play.{isTagged, lacksSet, byteDue, sizeDu
 use Rattle.session_rules.specs.Play.{Session, Step, endsBefore, endsAt, endCommand, goingCommand, commandStep, step}
 use Rattle.session_rules.specs.Ordinals.{isBeforeFirst, BeforeFirst}
 use Rattle.session_rules.specs.Refusals.{isEnding}
-use Rattle.session_rules.proofs.CommandTable.{known-below}
 
 -- n is a refusal that ends a session
 pub record EndingRefusal (n : ℕ) : Type 0 where
@@ -32,7 +31,7 @@ module _ (file : List ℕ) (at : ℕ) (set : Option Chosen) where
   -- no refusal is due: the file has a command there, it is known, has the set that it needs, and its operand lies whole in the file
   pub record Allowed : Type 0 where
     pub inside : at < length file
-    pub known : byteDue file at < 9
+    pub known : isKnown (byteDue file at) ≡ true
     pub needs : lacksSet (byteDue file at) set ≡ false
     pub whole : at + 1 + sizeDue file at set ≤ length file
 
@@ -48,7 +47,7 @@ module _ (file : List ℕ) (at : ℕ) (set : Option Chosen) where
       (λ n. cond-by Q (ltb (length file) next) (λ l. refuses 13 (ending 13 refl refl refl))
       (λ l. plays (record {
         inside = leb-false (length file) at e;
-        known = ltb-true b 9 (sym (known-below b) ∙ not-false (isKnown b) k);
+        known = not-false (isKnown b) k;
         needs = n;
         whole = ltb-false (length file) next l;
       })))))

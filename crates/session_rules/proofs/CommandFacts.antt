@@ -5,12 +5,12 @@ use mathlib.Core.Path.{_≡_, refl, sym, ap, _∙_}
 use mathlib.Core.Bool.{Bool, true, false, not, _&&_, true≢false, cond}
 use mathlib.Core.List.{List, [], _∷_, _++_, map}
 use mathlib.Core.Option.{Option, some}
-use Prim.Native.Nat.{ℕ, suc, _+_, _*_, _/_, _≤_, _<_}
+use Prim.Native.Nat.{ℕ, suc, _+_, _-_, _*_, _/_, _≤_, _<_}
 use native.Mathlib.Omega.{arith}
 use lib.Dec.{T, leb, eqb}
 use lib.IntN.{ℤ}
 use lib.ListN.{length, getD, drop, length-append, length-map, length-drop}
-use borrow.Author.Tests.{ltb-true, leb-false, eqb-true, eqb-false, eq-eqb, not-false}
+use borrow.Author.Tests.{ltb-true, leb-false, eqb-true, eqb-false, eq-eqb, ne-eqb, not-true, not-false}
 use Rattle.algebra.specs.All.{all}
 use Rattle.algebra.proofs.All.{all-append, all-drop}
 use Rattle.algebra.proofs.Test.{holds-true, true-holds, cond-by, by-test}
@@ -19,13 +19,13 @@ use Rattle.parameters.specs.declared.Params.{Params}
 use Rattle.parameters.specs.Sets.{isSet}
 use Rattle.polynomial.proofs.EvaluationLaws.{length-evaluations, length-evaluation-residues, evaluation-residues-below}
 use Rattle.polynomial.proofs.SignedForm.{evaluations-within}
-use Rattle.encoding.specs.Bytes.{numbers, signed16}
+use Rattle.encoding.specs.Bytes.{valueOf, numbers, signed16}
 use Rattle.encoding.specs.Challenge.{areEntries}
 use Rattle.encoding.specs.Encoding.{isKeyByte, keyCoefficient, areExponents, areEvaluations, entriesIn}
 use Rattle.encoding.proofs.Parts.{length-numbers}
 use Rattle.challenge.specs.Draw.{drawChallenge}
 use Rattle.scheme.specs.Scheme.{verdict}
-use Rattle.refusal.specs.Numbers.{nonePasses}
+use Rattle.refusal.specs.Numbers.{nonePasses, notHeld, noneLeft}
 use Rattle.refusal.specs.declared.Signing.{Signing}
 use Rattle.refusal.specs.declared.Signing.the-variants as signing
 use Rattle.signing.specs.Sign.{signAnswer, signWritten}
@@ -34,22 +34,22 @@ use Rattle.passign.specs.Hiding.{ourLibrary}
 use Rattle.passign.proofs.SignatureSize.{entry-signature-size}
 use Rattle.text.specs.Text.{decimal, hex, spaced}
 use Rattle.text.proofs.Text.{length-decimal, length-hex, length-spaced-integers}
-use Rattle.session_rules.specs.Held.{Chosen, paramsOf, Held, isHeld, given, withMasks}
-use Rattle.session_rules.specs.CommandTable.{commandTable, commandOf, forLoading, forSigning, forChecking}
+use Rattle.session_rules.specs.Held.{Chosen, paramsOf, Held, isHeld, given, leftOf, withMasks}
+use Rattle.session_rules.specs.CommandTable.{commandTable, isKnown, commandOf, forLoading, forSigning, forChecking, forGranting}
 use Rattle.session_rules.specs.Commands.{Payload, nothing, values, signed, judged, Result, accepted, refused}
-use Rattle.session_rules.specs.Commands.{keyEvaluations, keyResidues, maskOf, commandIn, command}
+use Rattle.session_rules.specs.Commands.{keyEvaluations, keyResidues, loadedKey, maskOf, commandIn, command}
 use Rattle.session_rules.specs.Commands.{chooseSet, loadExponents, loadKey, loadMask, loadMessage, loadEvaluations}
-use Rattle.session_rules.specs.Commands.{afterSigning, callSigning, sign, afterCheck, check}
+use Rattle.session_rules.specs.Commands.{afterSigning, callSigning, sign, afterCheck, check, grant}
 use Rattle.session_rules.specs.Rows.{payloadText}
 use Rattle.session_rules.specs.Play.{lacksSet}
 use Rattle.session_rules.specs.Plays.{Event, Material, paramsIn, readSet, callWith, chosenBy, firstPassing, withAccepted, withCommand}
-use Rattle.session_rules.specs.HeldIsRead.{Available, availableWithAccepted, availableWith}
+use Rattle.session_rules.specs.HeldIsRead.{Available, availableWithAccepted, availableWith, canSign, keyRead}
 use Rattle.session_rules.specs.Verdicts.{holdsOf, verdictPrinted}
 use Rattle.session_rules.specs.PrintedEvaluations.{evaluationsPrinted}
 use Rattle.session_rules.specs.Refusals.{isEnding}
 use Rattle.session_rules.proofs.CommandTable.{by-known, needs-set, command-set, command-in}
-use Rattle.session_rules.proofs.Kept.{TestedSet, isMask, Kept, gone, kept, kept-as, needed, KeptAll}
-use Rattle.session_rules.proofs.Kept.{keep-exponents, keep-key, keep-evaluations, keep-message, keep-masks, only-set}
+use Rattle.session_rules.proofs.Kept.{TestedSet, isMask, Kept, gone, kept, is-available, kept-as, needed, KeptAll}
+use Rattle.session_rules.proofs.Kept.{keep-exponents, keep-key, keep-left, keep-evaluations, keep-message, keep-masks, only-set}
 use Rattle.session_rules.proofs.Library.{sound, fitting, sign-refused, check-by-rule}
 
 -- a command that was played; what is read of it does not look at its buffer
@@ -81,12 +81,21 @@ pub record RefusalFacts (h : Held) (ended : Bool) (d : Result) : Type 0 where
   pub alone : d .payload ≡ nothing
   pub ends : ended ≡ isEnding (d .number)
 
--- what is held after a command is what is read, a 06 signs with the material or finds that no mask passes, an accepted 00 alone ends the session, and the
--- row has room: fewer than 1,153 evaluations of twelve bytes each, or a signature of at most 2,435 bytes in hex
+-- a 06 that does not end the session is refused with 10 just where something that it needs is not available, else with 17 just where no signature is left
+pub record SixTested (a : Available) (n : ℕ) : Type 0 where
+  pub lacks : eqb n notHeld ≡ not (canSign a)
+  pub spent : canSign a ≡ true → eqb n noneLeft ≡ eqb (a .left) 0
+
+abbrev pub TestedBy : Available → ℕ → ℕ → Type 0
+TestedBy a b n = b ≡ 6 → isEnding n ≡ false → SixTested a n
+
+-- what is held after a command is what is read, a 06 signs with the material or finds that no mask passes or that no signature is left, an accepted 00
+-- alone ends the session, and the row has room: fewer than 1,153 evaluations of twelve bytes each, or a signature of at most 2,435 bytes in hex
 pub record CommandFacts (m : Material) (a : Available) (h : Held) (b : ℕ) (op : List ℕ) (ended : Bool) (d : Result) : Type 0 where
   pub keeps : KeptAll (withCommand m (played b op (d .number))) (availableWith m a (played b op (d .number))) (d .held)
   pub signs : b ≡ 6 → d .number ≡ 0 → SignedWith m (d .payload)
   pub nine : b ≡ 6 → d .number ≡ nonePasses → NineWith m
+  pub six : TestedBy a b (d .number)
   pub judges : b ≡ 7 → d .number ≡ 0 → d .payload ≡ verdictPrinted m a op
   pub prints : b ≡ 3 → d .number ≡ 0 → d .payload ≡ evaluationsPrinted m a op
   pub refusal : (d .number ≡ 0 → ⊥) → RefusalFacts h ended d
@@ -95,12 +104,14 @@ pub record CommandFacts (m : Material) (a : Available) (h : Held) (b : ℕ) (op 
 
 module _ (m : Material) (a : Available) (h : Held) (w : KeptAll m a h) (op : List ℕ) where
   -- a refusal other than 9 leaves all as it was
-  pub refused-facts : (b n : ℕ) {ended : Bool} → eqb n 0 ≡ false → eqb n 9 ≡ false → ended ≡ isEnding n → CommandFacts m a h b op ended (refused n h)
+  pub refused-facts : (b n : ℕ) {ended : Bool} → eqb n 0 ≡ false → eqb n 9 ≡ false → ended ≡ isEnding n → TestedBy a b n
+      → CommandFacts m a h b op ended (refused n h)
   unfolding withCommand availableWith
-  refused-facts b n z q e = record {
+  refused-facts b n z q e six = record {
     keeps = rw (z, q) w;
     signs = λ s y. absurd (eqb-false n 0 z y);
     nine = λ s y. absurd (eqb-false n 9 q y);
+    six = six;
     judges = λ s y. absurd (eqb-false n 0 z y);
     prints = λ s y. absurd (eqb-false n 0 z y);
     refusal = λ y. record { leaves = rw q; alone = refl; ends = e };
@@ -116,6 +127,7 @@ module _ (m : Material) (a : Available) (h : Held) (w : KeptAll m a h) (op : Lis
     keeps = keeps;
     signs = λ s y. absurd (eqb-false b 6 other s);
     nine = λ s y. absurd (eqb-false b 6 other s);
+    six = λ s. absurd (eqb-false b 6 other s);
     judges = λ s y. absurd (eqb-false b 7 seventh s);
     prints = λ s y. printed s;
     refusal = λ y. absurd (y refl);
@@ -127,18 +139,19 @@ module _ (m : Material) (a : Available) (h : Held) (w : KeptAll m a h) (op : Lis
   abbrev Facts : ℕ → Result → Type 0
   Facts b d = CommandFacts m a h b op false d
 
-  -- a test of a command, with the refusal n
-  unless : (b n : ℕ) → eqb n 0 ≡ false → eqb n 9 ≡ false → false ≡ isEnding n → (x : Bool) {d : Result} → (x ≡ true → Facts b d)
+  -- a test of a command other than 06, with the refusal n
+  unless : (b n : ℕ) → eqb n 0 ≡ false → eqb n 9 ≡ false → false ≡ isEnding n → eqb b 6 ≡ false → (x : Bool) {d : Result} → (x ≡ true → Facts b d)
       → Facts b (cond (not x) (refused n h) d)
-  unless b n z q e x f = cond-by (Facts b) (not x) (λ t. refused-facts b n z q e) (λ t. f (not-false x t))
+  unless b n z q e other x f =
+      cond-by (Facts b) (not x) (λ t. refused-facts b n z q e (λ six. absurd (eqb-false b 6 other six))) (λ t. f (not-false x t))
 
   set-facts : Facts 1 (chooseSet h op)
   unfolding chooseSet withCommand withAccepted availableWith availableWithAccepted
   set-facts =
       let byte = getD op 0 0 in
-      unless 1 2 refl refl refl (isSet byte)
+      unless 1 2 refl refl refl refl (isSet byte)
       (λ e. accepted-facts 1 refl refl refl (λ three. absurd (omega arith)) (omega arith)
-      (only-set (readSet m (chosenBy byte)) (a .values) (kept (record { known = ltb-true byte 5 e; own = refl }))))
+      (only-set (readSet m (chosenBy byte)) (a .values) (a .left) (kept (record { known = ltb-true byte 5 e; own = refl }))))
 
   -- in the set read
   module _ (s : TestedSet (m .set)) where
@@ -152,26 +165,28 @@ module _ (m : Material) (a : Available) (h : Held) (w : KeptAll m a h) (op : Lis
     unfolding loadExponents withCommand withAccepted availableWith availableWithAccepted
     exponents-facts =
         let js = numbers 2 (p .t) op in
-        unless 2 4 refl refl refl (areExponents p js)
+        unless 2 4 refl refl refl refl (areExponents p js)
         (λ e. accepted-facts 2 refl refl refl (λ three. absurd (omega arith)) (omega arith)
-        (keep-evaluations (keep-key (keep-exponents w js (kept (record { size = length-numbers 2 (p .t) op; rise = e }))) _ gone) _ gone))
+        (keep-evaluations (keep-key (keep-exponents w js (kept (record { size = length-numbers 2 (p .t) op; rise = e }))) (keyRead m a) gone) _ gone))
 
     key-facts : T (isHeld (h .exponents)) → length op ≡ p .n → Facts 3 (loadKey c h op)
     unfolding loadKey withCommand withAccepted availableWith availableWithAccepted
     key-facts j size =
-        let (same, tested) = needed (w .exponents) j in
+        let (held, tested) = needed (w .exponents) j in
         let f = map keyCoefficient op in
         let js = given (h .exponents) in
+        let same = ap given held in
+        let points = ap length same ∙ tested .size in
         let es = keyEvaluations p js op in
         let vs = keyResidues p js op in
-        let count = length-evaluation-residues p f js ∙ tested .size in
+        let count = length-evaluation-residues p f js ∙ points in
         let below = evaluation-residues-below (sound s) f js in
-        let few = length-evaluations p f js ∙ tested .size in
+        let few = length-evaluations p f js ∙ points in
         let text = length-spaced-integers (p .q / 2) es (omega (arith, fitting s .modulus)) (evaluations-within (sound s) f js) in
-        unless 3 5 refl refl refl (all isKeyByte op)
+        unless 3 5 refl refl refl refl (all isKeyByte op)
         (λ e. accepted-facts 3 refl refl refl (λ three. ap (λ (l : List ℕ). values (keyEvaluations p l op)) same)
         (omega (arith, text, few, fitting s .exponents, fitting s .size))
-        (keep-evaluations (keep-key w op (kept (record { size = size; bytes = e }))) _
+        (keep-evaluations (keep-key w (loadedKey op) (kept (record { size = size; bytes = e }))) _
         (kept-as (ap (λ (l : List ℕ). keyResidues p l op) same) (record { size = count; below = holds-true (areEvaluations p vs) below }))))
 
     mask-facts : Facts 4 (loadMask c h op)
@@ -179,8 +194,8 @@ module _ (m : Material) (a : Available) (h : Held) (w : KeptAll m a h) (op : Lis
     mask-facts =
         let y = maskOf p op in
         let count = length-map (numbers 2 (p .n) op) signed16 ∙ length-numbers 2 (p .n) op in
-        cond-by (Facts 4) (leb 8 (length (h .masks))) (λ f. refused-facts 4 8 refl refl refl)
-        (λ f. unless 4 6 refl refl refl (within (p .k) y)
+        cond-by (Facts 4) (leb 8 (length (h .masks))) (λ f. refused-facts 4 8 refl refl refl (λ six. absurd (omega arith)))
+        (λ f. unless 4 6 refl refl refl refl (within (p .k) y)
         (λ e. accepted-facts 4 refl refl refl (λ three. absurd (omega arith)) (omega arith)
         (keep-masks w (ap (λ (l : List (List ℤ)). l ++ (y ∷ [])) (w .masks .0)) (record {
           each =
@@ -202,17 +217,18 @@ module _ (m : Material) (a : Available) (h : Held) (w : KeptAll m a h) (op : Lis
     unfolding firstPassing
     first-signs e = rw e
 
-    -- the library answers with what is held, which is the material
+    -- the library answers with what is held, which is the material, and signatures are left
     after-answer : (x : Signing) (bytes : List ℕ) → answerWith m ≡ x → bytes ≡ bytesWith m → ((n : ℕ) → answerWith m ≡ signing.Refused n → n ≡ 9)
-        → Facts 6 (afterSigning c h x bytes)
+        → leftOf (h .key) ≡ a .left → ((n : ℕ) → n < 10 → SixTested a n) → Facts 6 (afterSigning c h x bytes)
     unfolding withCommand withAccepted availableWith availableWithAccepted
-    after-answer (signing.Signed i) bytes e b nine = record {
-      keeps = rw (first-signs e) (keep-masks w (ap (drop (suc i)) (w .masks .0)) (record {
+    after-answer (signing.Signed i) bytes e b nine same tested = record {
+      keeps = rw (first-signs e, same) (keep-left (keep-masks w (ap (drop (suc i)) (w .masks .0)) (record {
         each = all-drop (isMask p) (suc i) (h .masks) (w .masks .1 .each);
         few = omega (arith, length-drop (suc i) (h .masks), w .masks .1 .few);
-      }));
+      })) (a .left - 1));
       signs = λ six z. record { set = s; answer = rw (first-signs e) e; payload = rw (first-signs e, b) };
       nine = λ six z. absurd (omega arith);
+      six = λ six goes. tested 0 (omega arith);
       judges = λ seven z. absurd (omega arith);
       prints = λ three z. absurd (omega arith);
       refusal = λ z. absurd (z refl);
@@ -221,11 +237,12 @@ module _ (m : Material) (a : Available) (h : Held) (w : KeptAll m a h) (op : Lis
           let size = rw (← b, ← s .own) at (entry-signature-size _ _ _ _ _ e) in
           omega (arith, length-append (spaced (decimal i)) (spaced (hex bytes)), length-decimal i, length-hex bytes, fitting s .size, fitting s .weight);
     }
-    after-answer (signing.Refused n) bytes e b nine =
+    after-answer (signing.Refused n) bytes e b nine same tested =
         rw (nine n e) (record {
           keeps = keep-masks w refl (record { each = tt; few = omega arith });
           signs = λ six z. absurd (omega arith);
           nine = λ six z. record { set = s; answer = e ∙ ap signing.Refused (nine n e) };
+          six = λ six goes. tested 9 (omega arith);
           judges = λ seven z. absurd (omega arith);
           prints = λ three z. absurd (omega arith);
           refusal = λ z. record { leaves = refl; alone = refl; ends = refl };
@@ -237,16 +254,34 @@ module _ (m : Material) (a : Available) (h : Held) (w : KeptAll m a h) (op : Lis
     three : (x y z : Bool) → T (x && (y && z)) → T x × (T y × T z)
     three true true true t = (tt, (tt, tt))
 
-    sign-facts : T (forSigning h) → Facts 6 (sign c h)
+    -- what a 06 needs is available where it is held
+    can-sign : forSigning h ≡ canSign a
+    can-sign = rw (is-available (w .exponents), is-available (w .key), is-available (w .message))
+
+    -- with all that it needs, and a number that is neither 10 nor 17
+    some-left : canSign a ≡ true → eqb (a .left) 0 ≡ false → (n : ℕ) → n < 10 → SixTested a n
+    some-left can left n low =
+        record { lacks = rw (can, ne-eqb n 10 (λ e. omega arith)); spent = λ e. rw (left, ne-eqb n 17 (λ e. omega arith)) }
+
+    -- without it
+    nothing-signs : forSigning h ≡ false → SixTested a 10
+    nothing-signs lacks =
+        let cannot = sym can-sign ∙ lacks in
+        record { lacks = rw cannot; spent = λ can. absurd (true≢false (sym can ∙ cannot)) }
+
+    sign-facts : forSigning h ≡ true → Facts 6 (sign c h)
     unfolding sign
     sign-facts n =
-        let (j, (k, t)) = three (isHeld (h .exponents)) (isHeld (h .key)) (isHeld (h .message)) n in
+        let can = sym can-sign ∙ n in
+        let (j, (k, t)) = three (isHeld (h .exponents)) (isHeld (h .key)) (isHeld (h .message)) (true-holds n) in
         let (js, exponents) = needed (w .exponents) j in
         let (ks, key) = needed (w .key) k in
         let (ts, message) = needed (w .message) t in
-        let same : answerWith m ≡ callSigning c h signAnswer = rw (js, ks, ts, w .masks .0) in
-        after-answer (callSigning c h signAnswer) (callSigning c h signWritten) same (rw (js, ks, ts, w .masks .0))
-        (λ n e. sign-refused s key exponents (w .masks .1) message n (sym same ∙ e))
+        let same = ap leftOf ks in
+        cond-by (Facts 6) (eqb (leftOf (h .key)) 0)
+        (λ none. refused-facts 6 17 refl refl refl (λ six goes. record { lacks = rw can; spent = λ e. sym (rw same at none) }))
+        (λ left. after-answer (callSigning c h signAnswer) (callSigning c h signWritten) (rw (js, ks, ts, w .masks .0)) (rw (js, ks, ts, w .masks .0))
+        (sign-refused s key exponents (rw (w .masks .0) at (w .masks .1)) message) same (some-left can (rw same at left)))
 
     -- an accepted 07, whose row prints v
     judged-facts : (v : ℕ) → v ≡ cond (holdsOf m a op) 1 0 → Facts 7 (accepted h (judged v))
@@ -255,6 +290,7 @@ module _ (m : Material) (a : Available) (h : Held) (w : KeptAll m a h) (op : Lis
       keeps = w;
       signs = λ six z. absurd (omega arith);
       nine = λ six z. absurd (omega arith);
+      six = λ six. absurd (omega arith);
       judges = λ seven z. ap judged e;
       prints = λ three z. absurd (omega arith);
       refusal = λ z. absurd (z refl);
@@ -266,7 +302,7 @@ module _ (m : Material) (a : Available) (h : Held) (w : KeptAll m a h) (op : Lis
     after-check : (entries holds : Bool) → holds ≡ holdsOf m a op → Facts 7 (afterCheck c h (verdictAfter (cond (not entries) 12 0) holds))
     after-check true true e = judged-facts 1 (rw (← e))
     after-check true false e = judged-facts 0 (rw (← e))
-    after-check false holds e = refused-facts 7 12 refl refl refl
+    after-check false holds e = refused-facts 7 12 refl refl refl (λ six. absurd (omega arith))
 
     check-facts : T (forChecking h) → length op ≡ 2 * p .b + 2 * p .n → Facts 7 (check c h op)
     unfolding check
@@ -275,41 +311,46 @@ module _ (m : Material) (a : Available) (h : Held) (w : KeptAll m a h) (op : Lis
         let (js, exponents) = needed (w .exponents) j in
         let (vs, evaluations) = needed (w .evaluations) v in
         let (ts, message) = needed (w .message) t in
-        let holds = verdict drawChallenge p (given (h .exponents)) (given (h .message)) (given (h .evaluations)) (bodyRead p op) in
-        rw (check-by-rule s exponents evaluations message op size)
-        (after-check (areEntries (p .n) (entriesIn p op)) holds (rw (js, vs, ts)))
+        rw (ap given js, ap given vs, ap given ts, check-by-rule s exponents evaluations message op size)
+        (after-check (areEntries (p .n) (entriesIn p op)) (holdsOf m a op) refl)
 
     evaluations-facts : Facts 8 (loadEvaluations c h op)
     unfolding loadEvaluations withCommand withAccepted availableWith availableWithAccepted
     evaluations-facts =
         let vs = numbers 3 (p .t) op in
-        unless 8 7 refl refl refl (areEvaluations p vs)
+        unless 8 7 refl refl refl refl (areEvaluations p vs)
         (λ e. accepted-facts 8 refl refl refl (λ three. absurd (omega arith)) (omega arith)
-        (keep-evaluations (keep-key w _ gone) vs (kept (record { size = length-numbers 3 (p .t) op; below = e }))))
+        (keep-evaluations (keep-key w (keyRead m a) gone) vs (kept (record { size = length-numbers 3 (p .t) op; below = e }))))
 
-    -- 02 to 08
-    in-set-facts : (b : ℕ) → b < 9 → 1 < b → length op ≡ commandOf b .size p → Facts b (commandIn c h b op)
+    grant-facts : T (forGranting h) → Facts 10 (grant c h op)
+    unfolding grant withCommand withAccepted availableWith availableWithAccepted
+    grant-facts n = accepted-facts 10 refl refl refl (λ three. absurd (omega arith)) (omega arith) (keep-left w (valueOf op))
+
+    -- all but 00 and 01
+    in-set-facts : (b : ℕ) → isKnown b ≡ true → 1 < b → length op ≡ commandOf b .size p → Facts b (commandIn c h b op)
     unfolding commandIn commandOf commandTable
     in-set-facts =
         by-known (λ (b : ℕ). 1 < b → length op ≡ commandOf b .size p → Facts b (commandIn c h b op))
         (λ l. absurd (omega arith))
         (λ l. absurd (omega arith))
         (λ l size. exponents-facts)
-        (λ l size. unless 3 10 refl refl refl (forLoading h) (λ n. key-facts (true-holds n) size))
+        (λ l size. unless 3 10 refl refl refl refl (forLoading h) (λ n. key-facts (true-holds n) size))
         (λ l size. mask-facts)
         (λ l. message-facts)
-        (λ l size. unless 6 10 refl refl refl (forSigning h) (λ n. sign-facts (true-holds n)))
-        (λ l size. unless 7 10 refl refl refl (forChecking h) (λ n. check-facts (true-holds n) size))
-        (λ l size. unless 8 10 refl refl refl (forLoading h) (λ n. evaluations-facts))
+        (λ l size. cond-by (Facts 6) (not (forSigning h)) (λ t. refused-facts 6 10 refl refl refl (λ six goes. nothing-signs (not-true (forSigning h) t)))
+        (λ t. sign-facts (not-false (forSigning h) t)))
+        (λ l size. unless 7 10 refl refl refl refl (forChecking h) (λ n. check-facts (true-holds n) size))
+        (λ l size. unless 8 10 refl refl refl refl (forLoading h) (λ n. evaluations-facts))
+        (λ l size. unless 10 10 refl refl refl refl (forGranting h) (λ n. grant-facts (true-holds n)))
 
-  -- 02 to 08 where a set is held, if they need one
-  in-force : (b : ℕ) → b < 9 → 1 < b → {x : Bool} {o : Option Chosen} → Kept TestedSet (m .set) x o → lacksSet b o ≡ false
+  -- the same where a set is held, if they need one
+  in-force : (b : ℕ) → isKnown b ≡ true → 1 < b → {x : Bool} {o : Option Chosen} → Kept TestedSet (m .set) x o → lacksSet b o ≡ false
       → length op ≡ commandOf b .size (paramsOf o) → (o ≡ some (m .set)) × Facts b (commandIn (m .set) h b op)
   in-force b high low gone lacks size = absurd (true≢false (rw (needs-set b high low) at lacks))
   in-force b high low (kept s) lacks size = (refl, in-set-facts s b high low size)
 
-  -- 01 to 08, with an operand of its size
-  pub command-facts : (b : ℕ) → b < 9 → (b ≡ 0 → ⊥) → lacksSet b (h .set) ≡ false → length op ≡ commandOf b .size (paramsOf (h .set))
+  -- all but 00, with an operand of its size
+  pub command-facts : (b : ℕ) → isKnown b ≡ true → (b ≡ 0 → ⊥) → lacksSet b (h .set) ≡ false → length op ≡ commandOf b .size (paramsOf (h .set))
       → Facts b (command h b op)
   command-facts b high nonzero lacks size =
       by-test (eqb b 1) (λ e. rw (eqb-true b 1 e, command-set h op) set-facts)

@@ -11,6 +11,7 @@ pub mod PrintedEvaluations
 pub mod PrintedRows
 pub mod Ordinals
 pub mod RowSize
+pub mod KeyLife
 pub mod After
 pub mod RightPlays
 pub mod Rows
@@ -27,3 +28,4 @@ pub mod Signings
 pub mod Counting
 pub mod Reading
 pub mod SigningRead
+pub mod Account

@@ -30,7 +30,7 @@ use Rattle.signing.specs.Sign.{areMasks, signRefusalIn, signRefusal, signedAnsw
 use Rattle.checking.specs.Check.{bodyRead, checkRefusalOf, verdictAfter, answerOn, checkAnswer}
 use Rattle.checking.proofs.Encoded.{encoded-answer}
 use Rattle.refusal.proofs.Apart.{refused-same, refused-not-signed}
-use Rattle.session_rules.specs.Held.{Chosen}
+use Rattle.session_rules.specs.Held.{Chosen, HeldKey}
 use Rattle.session_rules.specs.Commands.{signatureRoom}
 use Rattle.session_rules.proofs.Kept.{TestedSet, isMask, TestedExponents, TestedKey, TestedEvaluations, TestedMessage, TestedMasks}
 
@@ -104,18 +104,18 @@ module _ {c : Chosen} (s : TestedSet c) where
   pub fitting : Fitting p
   fitting = rw (s .own) (set-fitting (c .byte) (s .known))
 
-  module _ {key exponents : List ℕ} {masks : List (List ℤ)} {message : List ℕ}
+  module _ {key : HeldKey} {exponents : List ℕ} {masks : List (List ℤ)} {message : List ℕ}
       (k : TestedKey p key) (j : TestedExponents p exponents) (t : TestedMasks p masks) (m : TestedMessage message) where
-    pub sign-refused : (n : ℕ) → signAnswer (c .byte ∷ key) exponents (flatten masks) message (signatureRoom p) ≡ signing.Refused n → n ≡ 9
+    pub sign-refused : (n : ℕ) → signAnswer (c .byte ∷ key .bytes) exponents (flatten masks) message (signatureRoom p) ≡ signing.Refused n → n ≡ 9
     unfolding signAnswer signRefusal signRefusalIn isKey
     sign-refused n e =
-        signed-or-nine (signedBy drawChallenge p (keyOf (c .byte ∷ key)) exponents (flatten masks) message) n
+        signed-or-nine (signedBy drawChallenge p (keyOf (c .byte ∷ key .bytes)) exponents (flatten masks) message) n
         (rw (
           le-ltb 65535 (length message) (omega arith),
-          ne-eqb (length (c .byte ∷ key)) 0 (λ e. omega arith),
+          ne-eqb (length (c .byte ∷ key .bytes)) 0 (λ e. omega arith),
           lt-ltb (c .byte) 5 (s .known),
           ← s .own,
-          eq-eqb (suc (length key)) (secretKeySize p) (omega (arith, k .size)),
+          eq-eqb (suc (length (key .bytes))) (secretKeySize p) (omega (arith, k .size)),
           eq-eqb (length exponents) (p .t) (j .size),
           masks-flattened p t,
           eq-eqb (length (signatureRoom p)) (signatureSize p) (length-replicate (signatureSize p) 0),

@@ -1,7 +1,7 @@
 -- Sessions that plays lead to: what is held is what is read, after any list of plays.
 -- Assumes nothing.
-use mathlib.Core.Path.{_≡_, refl}
-use mathlib.Core.Bool.{false}
+use mathlib.Core.Path.{_≡_, refl, _∙_}
+use mathlib.Core.Bool.{false, true≢false}
 use mathlib.Core.List.{List, [], _∷_, _++_}
 use Prim.Native.Nat.{ℕ, _+_, _≤_}
 use native.Mathlib.Omega.{arith}
@@ -20,7 +20,7 @@ use Rattle.session_rules.proofs.After.{play-by}
 
 pub kept-opened : KeptAll noMaterial noneAvailable (opened .held)
 unfolding opened noMaterial noneAvailable
-kept-opened = only-set noMaterial [] gone
+kept-opened = only-set noMaterial [] 0 gone
 
 -- ---- one play that writes a row, whatever the file
 
@@ -35,8 +35,8 @@ module _ (m : Material) (a : Available) (s : Session) (w : KeptAll m a (s .held)
   unfolding withCommand withAccepted availableWith availableWithAccepted
   step-facts =
       step-by s file (StepFacts m a s)
-      (λ n e f b. refused-facts m a (s .held) w [] 0 n (e .refusal) (e .no-nine) (e .ending))
-      (λ n e c. refused-facts m a (s .held) w [] _ n (e .refusal) (e .no-nine) (e .ending))
+      (λ n e f b. refused-facts m a (s .held) w [] 0 n (e .refusal) (e .no-nine) (e .ending) (λ six goes. absurd (true≢false (e .ending ∙ goes))))
+      (λ n e c. refused-facts m a (s .held) w [] _ n (e .refusal) (e .no-nine) (e .ending) (λ six goes. absurd (true≢false (e .ending ∙ goes))))
       (λ c z. accepted-facts m a (s .held) w [] 0 refl refl refl (λ three. absurd (omega arith)) (omega arith) w)
       (λ g.
       let at = placeDue s in

@@ -13,7 +13,7 @@ use lib.Seq.{take-suc, take-add}
 use borrow.Author.Tests.{lt-ltb, eqb-true, eqb-false, ne-eqb}
 use Rattle.algebra.proofs.Test.{and-left, and-right, true-holds, by-test}
 use Rattle.session_rules.specs.Held.{Chosen, paramsOf}
-use Rattle.session_rules.specs.CommandTable.{commandTable, commandOf}
+use Rattle.session_rules.specs.CommandTable.{commandTable, isKnown, commandOf}
 use Rattle.session_rules.specs.Play.{Session, opened, Step, isTagged, lacksSet, byteDue, sizeDue, operandDue, step, Outcome}
 use Rattle.session_rules.specs.Plays.{Event, eventOf, eventsFrom, events, Material, noMaterial, paramsIn}
 use Rattle.session_rules.specs.HeldIsRead.{Available, noneAvailable}
@@ -242,7 +242,7 @@ module _ (file : List ℕ) where
   -- ---- where each command ends
 
   -- the set that a command's size goes by: the one read, where the command needs one
-  sized-by : (m : Material) (b : ℕ) → b < 9 → (b ≡ 0 → ⊥) → {x : Bool} {o : Option Chosen} → Kept TestedSet (m .set) x o → lacksSet b o ≡ false
+  sized-by : (m : Material) (b : ℕ) → isKnown b ≡ true → (b ≡ 0 → ⊥) → {x : Bool} {o : Option Chosen} → Kept TestedSet (m .set) x o → lacksSet b o ≡ false
       → commandOf b .size (paramsOf o) ≡ commandOf b .size (paramsIn m)
   unfolding commandOf commandTable
   sized-by m b high nonzero (kept s) lacks = refl

@@ -1,4 +1,4 @@
--- Document 01, "The session file" and "Refusals": the table of the commands: their bytes, which of them need a set (else 3), how long their
+-- Document 01, "The session file" and "Refusals", and document 02: the table of the commands: their bytes, which of them need a set (else 3), how long their
 -- operands are, and what must be held (else 10).
 -- Assumes nothing.
 use mathlib.Core.Bool.{Bool, true, false, _&&_, cond}
@@ -20,7 +20,7 @@ pub record Command : Type 0 where
 abbrev pub entry : ℕ → Bool → (Params → ℕ) → (Held → Bool) → Command
 entry byte needsSet size needs = record { byte = byte; needsSet = needsSet; size = size; needs = needs }
 
--- nothing is needed; points; points, key, message; points, evaluations, message
+-- nothing is needed; points; points, key, message; points, evaluations, message; a key
 abbrev pub nothingNeeded : Held → Bool
 nothingNeeded h = true
 
@@ -33,6 +33,9 @@ forSigning h = isHeld (h .exponents) && (isHeld (h .key) && isHeld (h .message))
 abbrev pub forChecking : Held → Bool
 forChecking h = isHeld (h .exponents) && (isHeld (h .evaluations) && isHeld (h .message))
 
+abbrev pub forGranting : Held → Bool
+forGranting h = isHeld (h .key)
+
 unfoldable pub commandTable : List Command
 commandTable =
     entry 0x00 false (λ (p : Params). 0) nothingNeeded
@@ -44,6 +47,7 @@ commandTable =
     ∷ entry 0x06 true (λ (p : Params). 0) forSigning
     ∷ entry 0x07 true (λ (p : Params). 2 * p .b + 2 * p .n) forChecking
     ∷ entry 0x08 true (λ (p : Params). 3 * p .t) forLoading
+    ∷ entry 0x0A true (λ (p : Params). 2) forGranting
     ∷ []
 
 -- the first entry with byte b

@@ -1,10 +1,10 @@
--- Document 01, "The session file": the commands, each from what is held and its operand to a number (0 or the refusal), what is held after it,
+-- Document 01, "The session file", and document 02: the commands, each from what is held and its operand to a number (0 or the refusal), what is held after it,
 -- and what its row adds. A refused command leaves what is held, save that 9 drops all masks.
 -- Assumes nothing.
 use mathlib.Core.Bool.{not, cond}
 use mathlib.Core.List.{List, [], _∷_, _++_, map, flatten}
 use mathlib.Core.Option.{Option, none, some}
-use Prim.Native.Nat.{ℕ, suc}
+use Prim.Native.Nat.{ℕ, suc, _-_}
 use lib.Dec.{leb, eqb}
 use lib.IntN.{ℤ}
 use lib.ListN.{length, getD, drop, replicate}
@@ -13,16 +13,17 @@ use Rattle.algebra.specs.Integer.{within}
 use Rattle.parameters.specs.declared.Params.{Params}
 use Rattle.parameters.specs.Sets.{isSet, setOf}
 use Rattle.polynomial.specs.Evaluation.{evaluations, evaluationResidues}
-use Rattle.encoding.specs.Bytes.{numbers, signed16}
+use Rattle.encoding.specs.Bytes.{valueOf, numbers, signed16}
 use Rattle.encoding.specs.Encoding.{isKeyByte, keyCoefficient, areExponents, areEvaluations, publicKey, signatureSize}
-use Rattle.refusal.specs.Numbers.{wrongSet, noSet, wrongExponents, wrongKey, wrongMask, wrongEvaluation, tooManyMasks, nonePasses, notHeld}
+use Rattle.refusal.specs.Numbers.{wrongSet, noSet, wrongExponents, wrongKey, wrongMask, wrongEvaluation, tooManyMasks, nonePasses, notHeld, noneLeft}
 use Rattle.refusal.specs.declared.Signing.{Signing}
 use Rattle.refusal.specs.declared.Signing.the-variants as signing
 use Rattle.refusal.specs.declared.Verdict.{Verdict}
 use Rattle.refusal.specs.declared.Verdict.the-variants as verdict
 use Rattle.signing.specs.Sign.{signAnswer, signWritten}
 use Rattle.checking.specs.Check.{checkAnswer}
-use Rattle.session_rules.specs.Held.{Chosen, Held, given, onlySet, withExponents, withKey, withEvaluations, withMasks, withMessage}
+use Rattle.session_rules.specs.Held.{Chosen, HeldKey, firstGrant, Held, given, bytesOf, leftOf, onlySet}
+use Rattle.session_rules.specs.Held.{withExponents, withKey, withLeft, withEvaluations, withMasks, withMessage}
 use Rattle.session_rules.specs.CommandTable.{commandOf}
 
 -- what an accepted command adds to its row: nothing; the evaluations in signed form (03); the number passed over and the signature (06); 1 or 0 (07)
@@ -58,6 +59,10 @@ keyEvaluations p exponents key = evaluations p (map keyCoefficient key) exponent
 abbrev pub keyResidues : Params → List ℕ → List ℕ → List ℕ
 keyResidues p exponents key = evaluationResidues p (map keyCoefficient key) exponents
 
+-- a key as it is loaded
+abbrev pub loadedKey : List ℕ → HeldKey
+loadedKey op = record { bytes = op; left = firstGrant }
+
 -- a mask of N times two bytes
 abbrev pub maskOf : Params → List ℕ → List ℤ
 maskOf p op = map signed16 (numbers 2 (p .n) op)
@@ -74,11 +79,11 @@ module _ (c : Chosen) (h : Held) where
       cond (not (areExponents (c .params) (numbers 2 (c .params .t) op))) (refused wrongExponents h)
       (accepted (withEvaluations (withKey (withExponents h (some (numbers 2 (c .params .t) op))) none) none) nothing)
 
-  -- 03: key, N bytes. Works out its public evaluations: held in 0..q-1, as 08 gives them, and printed in signed form
+  -- 03: key, N bytes, with the first grant. Works out its public evaluations: held in 0..q-1, as 08 gives them, and printed in signed form
   unfoldable pub loadKey : List ℕ → Result
   loadKey op =
       cond (not (all isKeyByte op)) (refused wrongKey h)
-      (accepted (withEvaluations (withKey h (some op)) (some (keyResidues (c .params) (given (h .exponents)) op)))
+      (accepted (withEvaluations (withKey h (some (loadedKey op))) (some (keyResidues (c .params) (given (h .exponents)) op)))
       (values (keyEvaluations (c .params) (given (h .exponents)) op)))
 
   -- 04: mask, N times two bytes, held after the others; at most eight
@@ -92,17 +97,18 @@ module _ (c : Chosen) (h : Held) where
   unfoldable pub loadMessage : List ℕ → Result
   loadMessage op = accepted (withMessage h (some op)) nothing
 
-  -- 06: the library's signing with what is held. Masks up to and with the one used are dropped; 9 drops all
+  -- after the library's signing: masks up to and with the one used are dropped, and the key has one signature less left; 9 drops all masks
   abbrev pub afterSigning : Signing → List ℕ → Result
-  afterSigning (signing.Signed i) bytes = accepted (withMasks h (drop (suc i) (h .masks))) (signed i bytes)
+  afterSigning (signing.Signed i) bytes = accepted (withLeft (withMasks h (drop (suc i) (h .masks))) (leftOf (h .key) - 1)) (signed i bytes)
   afterSigning (signing.Refused n) bytes = refused n (cond (eqb n nonePasses) (withMasks h []) h)
 
   -- the call of the library, with the key in its encoding
   abbrev pub callSigning : {A : Type 0} → (List ℕ → List ℕ → List ℤ → List ℕ → List ℕ → A) → A
-  callSigning f = f (c .byte ∷ given (h .key)) (given (h .exponents)) (flatten (h .masks)) (given (h .message)) (signatureRoom (c .params))
+  callSigning f = f (c .byte ∷ bytesOf (h .key)) (given (h .exponents)) (flatten (h .masks)) (given (h .message)) (signatureRoom (c .params))
 
+  -- 06: 17 where the key has no signature left, else the library's signing with what is held
   unfoldable pub sign : Result
-  sign = afterSigning (callSigning signAnswer) (callSigning signWritten)
+  sign = cond (eqb (leftOf (h .key)) 0) (refused noneLeft h) (afterSigning (callSigning signAnswer) (callSigning signWritten))
 
   -- 07: the library's check of a signature without its set byte
   abbrev pub afterCheck : Verdict → Result
@@ -120,7 +126,11 @@ module _ (c : Chosen) (h : Held) where
       cond (not (areEvaluations (c .params) (numbers 3 (c .params .t) op))) (refused wrongEvaluation h)
       (accepted (withEvaluations (withKey h none) (some (numbers 3 (c .params .t) op))) nothing)
 
--- command b, 02 to 08, in a set: 10 where something that it needs is not held
+  -- 0A: the signatures that the held key may still give, two bytes
+  unfoldable pub grant : List ℕ → Result
+  grant op = accepted (withLeft h (valueOf op)) nothing
+
+-- command b, 02 to 08 or 0A, in a set: 10 where something that it needs is not held
 unfoldable pub commandIn : Chosen → Held → ℕ → List ℕ → Result
 commandIn c h b op =
     cond (not (commandOf b .needs h)) (refused notHeld h)
@@ -130,9 +140,10 @@ commandIn c h b op =
     (cond (eqb b 0x05) (loadMessage c h op)
     (cond (eqb b 0x06) (sign c h)
     (cond (eqb b 0x07) (check c h op)
-    (loadEvaluations c h op)))))))
+    (cond (eqb b 0x08) (loadEvaluations c h op)
+    (grant c h op))))))))
 
--- command b, 01 to 08, with its operand. Without a set 02 to 08 never come here: `commandStep` refuses them first, and ends the session
+-- command b, other than 00, with its operand. Without a set only 01 comes here: `commandStep` refuses the others first, and ends the session
 unfoldable pub command : Held → ℕ → List ℕ → Result
 command h b op = cond (eqb b 0x01) (chooseSet h op) (inSet (h .set))
   where

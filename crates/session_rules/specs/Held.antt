@@ -18,11 +18,20 @@ abbrev pub paramsOf : Option Chosen → Params
 paramsOf none = row 0 0 0 0 0 0
 paramsOf (some c) = c .params
 
--- a key is held as its N bytes; masks in the order in which they came
+-- a key that is held: its N bytes, and the signatures that it may still give
+pub record HeldKey : Type 0 where
+  pub bytes : List ℕ
+  pub left : ℕ
+
+-- the signatures that a key may give when it is loaded: the first grant
+abbrev pub firstGrant : ℕ
+firstGrant = 65535
+
+-- masks are held in the order in which they came
 pub record Held : Type 0 where
   pub set : Option Chosen
   pub exponents : Option (List ℕ)
-  pub key : Option (List ℕ)
+  pub key : Option HeldKey
   pub evaluations : Option (List ℕ)
   pub masks : List (List ℤ)
   pub message : Option (List ℕ)
@@ -36,6 +45,20 @@ abbrev pub given : Option (List ℕ) → List ℕ
 given none = []
 given (some l) = l
 
+-- the bytes of the key and the signatures left: none where no key is held
+abbrev pub bytesOf : Option HeldKey → List ℕ
+bytesOf none = []
+bytesOf (some k) = k .bytes
+
+abbrev pub leftOf : Option HeldKey → ℕ
+leftOf none = 0
+leftOf (some k) = k .left
+
+-- the same key, with n signatures left
+abbrev pub leaving : ℕ → Option HeldKey → Option HeldKey
+leaving n none = none
+leaving n (some k) = some (record { bytes = k .bytes; left = n })
+
 -- nothing but a set, or nothing at all
 abbrev pub onlySet : Option Chosen → Held
 onlySet c = record { set = c; exponents = none; key = none; evaluations = none; masks = []; message = none }
@@ -47,9 +70,12 @@ module _ (h : Held) where
   withExponents js =
       record { set = h .set; exponents = js; key = h .key; evaluations = h .evaluations; masks = h .masks; message = h .message }
 
-  abbrev pub withKey : Option (List ℕ) → Held
+  abbrev pub withKey : Option HeldKey → Held
   withKey key =
       record { set = h .set; exponents = h .exponents; key = key; evaluations = h .evaluations; masks = h .masks; message = h .message }
+
+  abbrev pub withLeft : ℕ → Held
+  withLeft n = withKey (leaving n (h .key))
 
   abbrev pub withEvaluations : Option (List ℕ) → Held
   withEvaluations vs =

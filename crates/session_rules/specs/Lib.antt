@@ -15,3 +15,4 @@ pub mod PrintedRows
 pub mod Verdicts
 pub mod PrintedEvaluations
 pub mod FilePlayed
+pub mod KeyLife

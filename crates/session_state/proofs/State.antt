@@ -13,7 +13,7 @@ use borrow.Author.Tests.{lt-ltb, ltb-false}
 use Rattle.algebra.proofs.Test.{by-test, cond-by}
 use Rattle.parameters.specs.declared.Params.{Params}
 use Rattle.parameters.specs.Sets.{row, isSet, sets, setOf}
-use Rattle.session_rules.specs.Held.{isHeld, paramsOf}
+use Rattle.session_rules.specs.Held.{HeldKey, isHeld, leaving, paramsOf}
 use Rattle.session_state.specs.declared.Flags.{Flags}
 use Rattle.session_state.specs.State.{whenHeld, atMostEight, setHeld, heldIn, heldOf}
 
@@ -21,6 +21,11 @@ use Rattle.session_state.specs.State.{whenHeld, atMostEight, setHeld, he
 pub is-held : {A : Type 0} (b : Bool) (a : A) → isHeld (whenHeld b a) ≡ b
 is-held true a = refl
 is-held false a = refl
+
+-- another number of signatures left
+pub leaving-held : (n : ℕ) (held : Bool) (k : HeldKey) → leaving n (whenHeld held k) ≡ whenHeld held (record { bytes = k .bytes; left = n })
+leaving-held n true k = refl
+leaving-held n false k = refl
 
 -- the numbers in force are those of the set byte, all 0 where it is no set
 pub params-held : (set : ℕ) → paramsOf (setHeld set) ≡ setOf set

@@ -13,7 +13,7 @@ use Rattle.parameters.specs.declared.Params.{Params}
 use Rattle.parameters.specs.Sets.{isSet, setOf}
 use Rattle.encoding.specs.Bytes.{parts}
 use Rattle.encoding.specs.Encoding.{areExponents, areEvaluations}
-use Rattle.session_rules.specs.Held.{Chosen, Held, onlySet}
+use Rattle.session_rules.specs.Held.{Chosen, HeldKey, Held, onlySet}
 use Rattle.session_state.specs.declared.Flags.{Flags}
 
 abbrev pub whenHeld : {A : Type 0} → Bool → A → Option A
@@ -38,6 +38,10 @@ module _ (p : Params) where
   abbrev pub hasEvaluations : Bool → List ℕ → Bool
   hasEvaluations held vs = held && areEvaluations p (take (p .t) vs)
 
+-- the key in front of a list, with so many signatures left
+abbrev pub keyHeld : ℕ → List ℕ → ℕ → HeldKey
+keyHeld n k left = record { bytes = take n k; left = left }
+
 -- masks of n numbers each
 abbrev pub masksHeld : ℕ → ℕ → List ℤ → List (List ℤ)
 masksHeld n count ys = parts n (atMostEight count) ys
@@ -48,7 +52,7 @@ heldIn p flags e k v m t =
     record {
       set = some (chosenIn p (flags .set));
       exponents = whenHeld (hasExponents p (flags .exponents) e) (take (p .t) e);
-      key = whenHeld (flags .key) (take (p .n) k);
+      key = whenHeld (flags .key) (keyHeld (p .n) k (flags .left));
       evaluations = whenHeld (hasEvaluations p (flags .evaluations) v) (take (p .t) v);
       masks = masksHeld (p .n) (flags .count) m;
       message = whenHeld (flags .message) t;

@@ -14,7 +14,11 @@ pub const MESSAGE_SIZE: usize = 64;
 
 pub const MAX_SIGNATURE: usize = 2435;
 
-// Whether the session has ended, its place in the file and its row count; the set byte, which things are held, and how many masks.
+// The signatures that a key may give when it is loaded.
+pub const FIRST_GRANT: u16 = 65535;
+
+// Whether the session has ended, its place in the file and its row count; the set byte, which things are held, how many masks, and how many signatures are
+// left to the key.
 pub struct Flags {
     pub ended: bool,
     pub place: usize,
@@ -25,6 +29,7 @@ pub struct Flags {
     pub evaluations: bool,
     pub message: bool,
     pub count: usize,
+    pub left: u16,
 }
 
 // What an accepted command adds to its row; the lists stand in the arrays beside it, in front: so many evaluations, with the modulus by which a row has

@@ -1,4 +1,5 @@
 pub mod WorkedSession
+pub mod KeyLife
 pub mod AcceptedSigning
 pub mod Draws
 pub mod Calls

@@ -11,9 +11,9 @@ use Rattle.parameters.specs.Sets.{sets, setOf}
 use Rattle.polynomial.specs.Evaluation.{evaluation, evaluationResidue, evaluations, evaluationResidues}
 use Rattle.encoding.specs.Bytes.{numbers}
 use Rattle.text.specs.Text.{digits, signedDecimal, hex, spacedIntegers}
-use Rattle.session_rules.specs.Held.{Chosen, Held, withMasks}
+use Rattle.session_rules.specs.Held.{Chosen, Held, withMasks, withLeft}
 use Rattle.session_rules.specs.CommandTable.{commandTable, isKnown, commandOf}
-use Rattle.session_rules.specs.Commands.{signed, judged, accepted, chooseSet, loadExponents, loadKey, loadMask, loadMessage, sign, check}
+use Rattle.session_rules.specs.Commands.{signed, judged, accepted, loadedKey, chooseSet, loadExponents, loadKey, loadMask, loadMessage, sign, check}
 use Rattle.session_rules.specs.Commands.{command, commandIn}
 use Rattle.session_rules.specs.Rows.{rowText}
 use Rattle.session_rules.specs.Play.{Session, Step, opened, isTagged, refusalDue, goesOn, commandStep, step, rowOf}
@@ -21,22 +21,22 @@ use Rattle.session_rules.proofs.RightPlays.{StepRows}
 use Rattle.worked_session.specs.WorkedSession.{key, exponents, values, masks, message, room, signature, file, transcript}
 use Rattle.worked_session.proofs.Calls.{signs, writes, says-yes}
 
--- set 0 in force, what is held before the 06, and after it: the mask that signed was the last
-set-zero : Chosen
+-- set 0 in force, what is held before the 06, and after it: the mask that signed was the last, and one signature less is left
+unfoldable pub set-zero : Chosen
 set-zero = record { byte = 0; params = setOf 0 }
 
-loaded : Held
+unfoldable pub loaded : Held
 loaded = record {
   set = some set-zero;
   exponents = some exponents;
-  key = some (drop 1 key);
+  key = some (loadedKey (drop 1 key));
   evaluations = some values;
   masks = (pos 1 ∷ negsuc 0 ∷ pos 1 ∷ negsuc 5 ∷ pos 2 ∷ []) ∷ (negsuc 0 ∷ negsuc 0 ∷ pos 1 ∷ pos 2 ∷ pos 2 ∷ []) ∷ [];
   message = some message;
 }
 
-maskless : Held
-maskless = withMasks loaded []
+unfoldable pub maskless : Held
+maskless = withLeft (withMasks loaded []) 65534
 
 signing-result : sign set-zero loaded ≡ accepted maskless (signed 1 signature)
 unfolding sign set-zero loaded maskless setOf sets key masks room flatten
@@ -47,13 +47,13 @@ unfolding check set-zero loaded maskless signature
 check-result = rw says-yes
 
 -- a session that goes on, at this place and with this row count
-going : ℕ → ℕ → Held → Session
+unfoldable pub going : ℕ → ℕ → Held → Session
 going place rows held = record { ended = false; place = place; rows = rows; held = held }
 
 -- one row in front, by what its step gives
-row-more : (s : Session) (t : Step) (rows : List (List ℕ)) → s .ended ≡ false → step s file ≡ t → StepRows file (t .session) rows
+pub row-more : (file : List ℕ) (s : Session) (t : Step) (rows : List (List ℕ)) → s .ended ≡ false → step s file ≡ t → StepRows file (t .session) rows
     → StepRows file s (rowOf t ∷ rows)
-row-more s t rows goes e more = (goes, (rw e, rw e more))
+row-more file s t rows goes e more = (goes, (rw e, rw e more))
 
 -- from the 00 on
 end-row : StepRows file (going 120 8 maskless) (drop 8 transcript)
@@ -66,7 +66,7 @@ check-rows : StepRows file (going 105 7 maskless) (drop 7 transcript)
 unfolding file message signature transcript going maskless loaded set-zero setOf sets
     step commandStep refusalDue commandTable isKnown commandOf command commandIn rowText digits hex
 check-rows =
-    row-more (going 105 7 maskless) (goesOn (going 105 7 maskless) 120 7 (drop 1 signature) (accepted maskless (judged 1)))
+    row-more file (going 105 7 maskless) (goesOn (going 105 7 maskless) 120 7 (drop 1 signature) (accepted maskless (judged 1)))
     (drop 8 transcript) refl (rw check-result) end-row
 
 -- from the 06 on
@@ -74,7 +74,7 @@ sign-rows : StepRows file (going 104 6 loaded) (drop 6 transcript)
 unfolding file message signature transcript going maskless loaded set-zero setOf sets
     step commandStep refusalDue commandTable isKnown commandOf command commandIn rowText digits hex
 sign-rows =
-    row-more (going 104 6 loaded) (goesOn (going 104 6 loaded) 105 6 [] (accepted maskless (signed 1 signature)))
+    row-more file (going 104 6 loaded) (goesOn (going 104 6 loaded) 105 6 [] (accepted maskless (signed 1 signature)))
     (drop 7 transcript) refl (rw signing-result) check-rows
 
 -- all

@@ -1,1 +1,2 @@
 pub mod WorkedSession
+pub mod KeyLife

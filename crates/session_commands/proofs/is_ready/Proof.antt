@@ -17,4 +17,5 @@ pub is-ready-spec : {M : Type 1} → statement M
 is-ready-spec =
     tie.close
     (tie.spec (λ c. search needs) (λ c. search needs) (λ c κs. search needs) (λ c. search needs) (λ c κs. search needs) (λ c. search needs)
-    (λ c κs. search needs) (λ c κs. search needs) (λ c. rw (c .enum-told .given .1)) returns-2 returns-3 returns-4)
+    (λ c κs. search needs) (λ c κs. search needs) (λ c. search needs) (λ c. rw (c .enum-told .given .1)) returns-2 returns-3 returns-4
+    (λ c. rw (c .enum-told5 .given .1)))

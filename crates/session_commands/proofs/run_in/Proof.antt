@@ -3,13 +3,14 @@
 use mathlib.Core.Path.{_≡_, refl, sym, ap, _∙_}
 use mathlib.Core.Bool.{Bool, true}
 use mathlib.Core.List.{[]}
-use Prim.Native.Nat.{ℕ}
+use Prim.Native.Nat.{ℕ, _<_}
 use native.Mathlib.Omega.{arith}
 use lib.ListN.{length}
 use borrow.Author.Needs.{needs}
 use Rattle.session_rules.specs.Held.{Held}
-use Rattle.session_rules.specs.CommandTable.{commandOf, commandTable}
+use Rattle.session_rules.specs.CommandTable.{isKnown, commandOf, commandTable}
 use Rattle.session_rules.specs.Commands.{commandIn}
+use Rattle.session_rules.proofs.CommandTable.{by-known}
 use Rattle.session_state.specs.State.{heldIn}
 use Rattle.session_commands.specs.declared.Needs.{Needs}
 use Rattle.session_commands.specs.declared.Needs.the-variants as held
@@ -86,17 +87,38 @@ check-held-requires c κs =
     let z = s .pre .1 .0 in
     ((s .pre .0 .0, size s e), ((z .exponents, z .evaluations, z .message), ready s e held.ToCheck refl))
 
--- the byte that is left
-eight : (c : tie.At-match-rest) → let s = c .before .before .before .before .before .before .before in s .args .byte ≡ 8
-eight c = omega arith
-
 load-evaluations-requires : tie.Need-load-evaluations-requires
 unfolding commandOf commandTable
 load-evaluations-requires c κs =
     let s = c .before .before .before .before .before .before .before .before .before in
-    let e = eight (c .before .before) in
+    let e = c .before .before .match .keys7 in
     let z = s .pre .1 .0 in
     (fitting (s .pre .0 .0), (size s e, z .evaluations))
+
+-- the byte that is left
+above-four : (b : ℕ) → 1 < b → (b ≡ 2 → ⊥) → (b ≡ 3 → ⊥) → (b ≡ 4 → ⊥) → 4 < b
+above-four b l two three four = omega arith
+
+above-eight : (b : ℕ) → 4 < b → (b ≡ 5 → ⊥) → (b ≡ 6 → ⊥) → (b ≡ 7 → ⊥) → (b ≡ 8 → ⊥) → 8 < b
+above-eight b l five six seven eight = omega arith
+
+last-byte : (b : ℕ) → isKnown b ≡ true → 8 < b → b ≡ 10
+last-byte =
+    by-known (λ (b : ℕ). 8 < b → b ≡ 10) (λ l. absurd (omega arith)) (λ l. absurd (omega arith)) (λ l. absurd (omega arith)) (λ l. absurd (omega arith))
+    (λ l. absurd (omega arith)) (λ l. absurd (omega arith)) (λ l. absurd (omega arith)) (λ l. absurd (omega arith)) (λ l. absurd (omega arith)) (λ l. refl)
+
+ten : (c : tie.At-match-rest) → let s = c .before .before .before .before .before .before .before in s .args .byte ≡ 10
+ten c =
+    let s = c .before .before .before .before .before .before .before in
+    let b = s .args .byte in
+    let r = c .match .rest in
+    let l = r .0 .0 .0 .0 in
+    let low = above-four b (s .pre .0 .1) (l .0 .0 .1) (l .0 .1) (l .1) in
+    last-byte b (s .pre .0 .2) (above-eight b low (r .0 .0 .0 .1) (r .0 .0 .1) (r .0 .1) (r .1))
+
+grant-requires : tie.Need-grant-requires
+unfolding commandOf commandTable
+grant-requires c κs = size (c .before .before .before .before .before .before .before) (ten c)
 
 returns : tie.Need-returns
 unfolding commandIn
@@ -159,12 +181,25 @@ returns-7 c =
     let s = m .before .before .before .before .before .before .before in
     let a = s .args in
     let told = c .before .before .before .before .load-evaluations .ensures in
-    (rw (all-held s, eight m) (told .0 (a .exponents .now) (a .masks .now) (a .message .now) (a .signature .now)), told .1)
+    (rw (all-held s, m .match .keys7) (told .0 (a .exponents .now) (a .masks .now) (a .message .now) (a .signature .now)), told .1)
+
+returns-8 : tie.Need-returns-8
+unfolding commandIn
+returns-8 c =
+    let m = c .before in
+    let s = m .before .before .before .before .before .before .before in
+    let a = s .args in
+    let told = c .grant .ensures in (
+      rw (all-held s, ten m)
+          (told .0 (a .exponents .now) (a .key .now) (a .evaluations .now) (a .masks .now) (a .message .now) (a .signature .now)),
+      told .1,
+    )
 
 pub run-in-spec : {M : Type 1} → statement M
 run-in-spec =
     tie.close
     (tie.spec load-exponents-requires load-key-requires load-mask-requires load-message-requires sign-held-requires check-held-requires
-    load-evaluations-requires (λ c. search needs) (λ c. search needs) returns (λ c. search needs) (λ c. search needs) (λ c. search needs) returns-2
+    load-evaluations-requires grant-requires (λ c. search needs) (λ c. search needs) returns (λ c. search needs) (λ c. search needs) (λ c. search needs) returns-2
     (λ c. search needs) returns-3 (λ c. search needs) returns-4 (λ c. search needs) (λ c. search needs) (λ c. search needs) (λ c. search needs)
-    (λ c. search needs) returns-5 (λ c. search needs) (λ c. search needs) (λ c. search needs) returns-6 (λ c. search needs) (λ c. search needs) returns-7)
+    (λ c. search needs) returns-5 (λ c. search needs) (λ c. search needs) (λ c. search needs) returns-6 (λ c. search needs) (λ c. search needs) returns-7
+    returns-8)
