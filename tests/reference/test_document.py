@@ -162,6 +162,20 @@ def test_before_the_first_command_and_at_the_end():
     assert played(b"PSG1\1\5\1\0\2\0") == b"1 01 2\n2 01 0\n3 02 13\n"
 
 
+def test_grants():
+    """Request #105: the tests of 0A in order, and those of 06 with the second case's key, the message held last and no mask."""
+    played = session.play_to_the_end
+    assert played(b"PSG1\x09") == b"1 09 14\n" and played(b"PSG1\x0a") == b"1 0A 3\n"
+    assert played(b"PSG1\1\0\x0a\0") == b"1 01 0\n2 0A 13\n"
+    assert played(b"PSG1\1\0\x0a\0\0\0") == b"1 01 0\n2 0A 10\n3 00 0\n"
+    loaded = bytes.fromhex("50534731 0100 0200010002 0301FF000100")
+    for number, refusal in ((0, b"17"), (1, b"9"), (65535, b"9")):
+        granted = loaded + b"\x0a" + number.to_bytes(2, "big") + b"\6\5" + bytes(64) + b"\6\6"
+        assert played(granted).endswith(b"4 0A 0\n5 06 10\n6 05 0\n7 06 %b\n8 06 %b\n9 00 13\n" % (refusal, refusal))
+        assert played(granted + b"\3\2\0\0\0\0\6").endswith(b"9 03 5\n10 06 %b\n11 00 13\n" % refusal)
+        assert played(granted + loaded[11:] + b"\6").endswith(b"9 03 0 7 -1\n10 06 9\n11 00 13\n")
+
+
 def test_lent_rows():
     """Row buffers of the wrong length, bytes behind the row, another file, plays after the end."""
     opened = session.open_session()
@@ -192,7 +206,7 @@ def main():
         except AssertionError:
             print(f"reference: {name} fails")
             raise
-    print(f"reference: {len(cases)} groups of document 01's cases hold")
+    print(f"reference: {len(cases)} groups of the documents' cases hold")
 
 
 if __name__ == "__main__":

@@ -12,10 +12,12 @@ use Rattle.algebra.specs.All.{all}
 use Rattle.algebra.proofs.Test.{and-left, and-right, holds-true, true-holds, cond-by, by-test}
 use Rattle.encoding.specs.Bytes.{valueOf}
 use Rattle.session_rules.specs.Held.{firstGrant}
-use Rattle.session_rules.specs.Plays.{Event, isSigning, Material, withAccepted, withCommand}
-use Rattle.session_rules.specs.HeldIsRead.{materialAfter, Available, availableWithAccepted, availableWith, availableAfter, canSign}
-use Rattle.session_rules.specs.KeyLife.{isAccepted, isLoading, isGrant, keepsKey, given, lastGrantOr, hasGrant, upToGrant, Balanced, HeldSince}
+use Rattle.session_rules.specs.Play.{Session, opened}
+use Rattle.session_rules.specs.Plays.{Event, events, isAccepted, isSigning, Material, noMaterial, withAccepted, withCommand}
+use Rattle.session_rules.specs.HeldIsRead.{materialAfter, Available, noneAvailable, availableWithAccepted, availableWith, availableAfter, canSign}
+use Rattle.session_rules.specs.KeyLife.{isLoading, isGrant, keepsKey, signaturesGiven, lastGrantOr, hasGrant, upToGrant, Balanced, HeldSince}
 use Rattle.session_rules.proofs.CommandFacts.{TestedBy}
+use Rattle.session_rules.proofs.Reaching.{step-facts, kept-opened, plays-by}
 
 -- ---- each 06 of a list
 
@@ -23,6 +25,12 @@ use Rattle.session_rules.proofs.CommandFacts.{TestedBy}
 abbrev pub EachTested : Material → Available → List Event → Type 0
 EachTested m a [] = Unit {0}
 EachTested m a (e ∷ es) = TestedBy a (e .byte) (e .number) × EachTested (withCommand m e) (availableWith m a e) es
+
+pub each-tested : (file : List ℕ) (buffers : List (List ℕ)) → EachTested noMaterial noneAvailable (events file buffers)
+unfolding events
+each-tested file buffers =
+    plays-by file (λ (m : Material) (a : Available) (s : Session) (es : List Event) (t : Session). EachTested m a es)
+    (λ m a s w. tt) (λ m a s w g buffer es t rest. (step-facts m a s w file .tested, rest)) noMaterial noneAvailable opened kept-opened buffers
 
 -- in the front of a list, and at one of its commands
 pub tested-front : (front rest : List Event) (m : Material) (a : Available) → EachTested m a (front ++ rest) → EachTested m a front
@@ -55,18 +63,14 @@ none-of-four false false false false true t e = (refl, (refl, (refl, refl)))
 module _ (m : Material) (a : Available) where
   -- an accepted command other than 01, 02, 03 and 08
   module _ (b : ℕ) (op : List ℕ) (one : eqb b 1 ≡ false) (two : eqb b 2 ≡ false) (eight : eqb b 8 ≡ false) (three : eqb b 3 ≡ false) where
-    accepted-key : availableWithAccepted m a b op .key ≡ a .key
+    accepted-life : let z = availableWithAccepted m a b op in
+        (z .key ≡ a .key) × (z .left ≡ cond (eqb b 10) (valueOf op) (cond (eqb b 6) (a .left - 1) (a .left)))
     unfolding availableWithAccepted
-    accepted-key =
+    accepted-life =
         rw (one, two, eight, three)
-        (by-test (eqb b 5) (λ t. rw t) (λ t. by-test (eqb b 6) (λ u. rw (t, u)) (λ u. by-test (eqb b 10) (λ v. rw (t, u, v)) (λ v. rw (t, u, v)))))
-
-    accepted-left : availableWithAccepted m a b op .left ≡ cond (eqb b 10) (valueOf op) (cond (eqb b 6) (a .left - 1) (a .left))
-    unfolding availableWithAccepted
-    accepted-left =
-        rw (one, two, eight, three)
-        (by-test (eqb b 5) (λ t. rw (eqb-true b 5 t))
-        (λ t. by-test (eqb b 6) (λ u. rw (eqb-true b 6 u)) (λ u. by-test (eqb b 10) (λ v. rw (t, u, v)) (λ v. rw (t, u, v)))))
+        (by-test (eqb b 5) (λ t. rw (eqb-true b 5 t) (refl, refl))
+        (λ t. by-test (eqb b 6) (λ u. rw (eqb-true b 6 u) (refl, refl))
+        (λ u. by-test (eqb b 10) (λ v. rw (t, u, v) (refl, refl)) (λ v. rw (t, u, v) (refl, refl)))))
 
     accepted-bytes : withAccepted m b op .key ≡ m .key
     unfolding withAccepted
@@ -88,10 +92,11 @@ module _ (m : Material) (a : Available) where
         by-test (eqb (e .number) 0)
         (λ z.
         let (one, (two, (eight, three))) = none-of-four (eqb b 1) (eqb b 2) (eqb b 8) (eqb b 3) (eqb (e .number) 0) k z in
+        let (key, left) = accepted-life b (e .operand) one two eight three in
         record {
-          key = rw z (accepted-key b (e .operand) one two eight three);
+          key = rw z key;
           bytes = rw z (accepted-bytes b (e .operand) one two eight three);
-          left = rw z (accepted-left b (e .operand) one two eight three ∙ rw (and-true (eqb b 10), and-true (eqb b 6)));
+          left = rw z (left ∙ rw (and-true (eqb b 10), and-true (eqb b 6)));
         })
         (λ z. record {
           key = rw z;
@@ -122,6 +127,10 @@ module _ (m : Material) (a : Available) where
 
 -- ---- the commands since a loading
 
+-- x signatures are left before some commands, z after them
+abbrev BalancedFrom : ℕ → List Event → ℕ → Type 0
+BalancedFrom x es z = signaturesGiven es + z ≡ lastGrantOr x es + signaturesGiven (upToGrant es)
+
 -- where one of them grants it does not matter what was granted before; where none does it is the number last granted
 last-of-many : (x y : ℕ) (es : List Event) → hasGrant es ≡ true → lastGrantOr x es ≡ lastGrantOr y es
 last-of-many x y [] t = absurd (true≢false (sym t))
@@ -142,33 +151,33 @@ grant-only e g = rw (accepted-parts 10 e g .0)
 
 -- one command more in front
 module _ (e : Event) where
-  given-more : (es : List Event) → given (e ∷ es) ≡ cond (isSigning e) 1 0 + given es
+  given-more : (es : List Event) → signaturesGiven (e ∷ es) ≡ cond (isSigning e) 1 0 + signaturesGiven es
   given-more es = by-test (isSigning e) (λ s. rw s (omega arith)) (λ s. rw s (omega arith))
 
   last-more : (x : ℕ) (es : List Event) → isGrant e ≡ false → lastGrantOr x (e ∷ es) ≡ lastGrantOr x es
   last-more x es g = rw g
 
-  up-to-more : (es : List Event) → hasGrant (e ∷ es) ≡ true → given (upToGrant (e ∷ es)) ≡ cond (isSigning e) 1 0 + given (upToGrant es)
-  up-to-more es t = ap given (up-to t) ∙ given-more (upToGrant es)
+  up-to-more : (es : List Event) → hasGrant (e ∷ es) ≡ true → signaturesGiven (upToGrant (e ∷ es)) ≡ cond (isSigning e) 1 0 + signaturesGiven (upToGrant es)
+  up-to-more es t = ap signaturesGiven (up-to t) ∙ given-more (upToGrant es)
     where
       up-to : hasGrant (e ∷ es) ≡ true → upToGrant (e ∷ es) ≡ e ∷ upToGrant es
       up-to t = rw t
 
-  -- x signatures are left before it, y after it, and z after all
-  module _ (es : List Event) (x y z : ℕ) (balance : given es + z ≡ lastGrantOr y es + given (upToGrant es)) where
-    balance-granted : isGrant e ≡ true → y ≡ valueOf (e .operand) → given (e ∷ es) + z ≡ lastGrantOr x (e ∷ es) + given (upToGrant (e ∷ es))
+  -- y signatures are left after it
+  module _ (es : List Event) (x y z : ℕ) (balance : BalancedFrom y es z) where
+    balance-granted : isGrant e ≡ true → y ≡ valueOf (e .operand) → BalancedFrom x (e ∷ es) z
     balance-granted g is =
         let last : lastGrantOr x (e ∷ es) ≡ lastGrantOr y es = rw (g, is) in
         let none : cond {A = ℕ} (isSigning e) 1 0 ≡ 0 = rw (grant-only e g) in
         omega (arith, balance, last, none, given-more es, up-to-more es (rw g))
 
-    balance-spent : isGrant e ≡ false → x ≡ cond (isSigning e) 1 0 + y → given (e ∷ es) + z ≡ lastGrantOr x (e ∷ es) + given (upToGrant (e ∷ es))
+    balance-spent : isGrant e ≡ false → x ≡ cond (isSigning e) 1 0 + y → BalancedFrom x (e ∷ es) z
     balance-spent g is =
         by-test (hasGrant es)
         (λ t. omega (arith, balance, last-more x es g, last-of-many x y es t, given-more es, up-to-more es (rw (g, t))))
         (λ t.
-        let none = ap given (none-up-to (e ∷ es) (rw (g, t))) in
-        omega (arith, balance, is, last-more x es g, last-of-none x es t, last-of-none y es t, given-more es, ap given (none-up-to es t), none))
+        let none = ap signaturesGiven (none-up-to (e ∷ es) (rw (g, t))) in
+        omega (arith, balance, is, last-more x es g, last-of-none x es t, last-of-none y es t, given-more es, ap signaturesGiven (none-up-to es t), none))
 
 -- what is left before a command that does not grant: what is left after it, and one more where it signs
 left-before : (signs : Bool) (x : ℕ) → (signs ≡ true → x ≡ 0 → ⊥) → x ≡ cond signs 1 0 + cond signs (x - 1) x
@@ -176,8 +185,7 @@ left-before true x some = omega (arith, some refl)
 left-before false x some = omega arith
 
 balance-more : (e : Event) (es : List Event) (x y z : ℕ) → y ≡ cond (isGrant e) (valueOf (e .operand)) (cond (isSigning e) (x - 1) x)
-    → (isSigning e ≡ true → x ≡ 0 → ⊥) → given es + z ≡ lastGrantOr y es + given (upToGrant es)
-    → given (e ∷ es) + z ≡ lastGrantOr x (e ∷ es) + given (upToGrant (e ∷ es))
+    → (isSigning e ≡ true → x ≡ 0 → ⊥) → BalancedFrom y es z → BalancedFrom x (e ∷ es) z
 balance-more e es x y z after some balance =
     by-test (isGrant e) (λ g. balance-granted e es x y z balance g (rw g at after))
     (λ g.
@@ -188,7 +196,7 @@ balance-more e es x y z after some balance =
 record AccountFrom (m : Material) (a : Available) (es : List Event) : Type 0 where
   pub key : availableAfter m a es .key ≡ true
   pub bytes : materialAfter m es .key ≡ m .key
-  pub balance : given es + availableAfter m a es .left ≡ lastGrantOr (a .left) es + given (upToGrant es)
+  pub balance : BalancedFrom (a .left) es (availableAfter m a es .left)
 
 -- an accepted 06 finds a signature left
 some-left : (a : Available) (e : Event) → TestedBy a (e .byte) (e .number) → isSigning e ≡ true → a .left ≡ 0 → ⊥
@@ -225,14 +233,15 @@ unfolding availableAfter materialAfter
 account-behind [] load since m a h loads held =
     let l = key-loaded m a load (holds-true (isLoading load) loads) in
     let r = account-from since (withCommand m load) (availableWith m a load) (h .1) held (l .key) in
-    record { key = r .key; bytes = r .bytes ∙ l .bytes; balance = r .balance ∙ ap (λ (x : ℕ). lastGrantOr x since + given (upToGrant since)) (l .left) }
+    let first = ap (λ (x : ℕ). lastGrantOr x since + signaturesGiven (upToGrant since)) (l .left) in
+    record { key = r .key; bytes = r .bytes ∙ l .bytes; balance = r .balance ∙ first }
 account-behind (e ∷ before) load since m a h loads held =
     let r = account-behind before load since (withCommand m e) (availableWith m a e) (h .1) loads held in
     record { key = r .key; bytes = r .bytes; balance = r .balance }
 
 pub account-of : (es : List Event) (l : HeldSince es) (m : Material) (a : Available) → EachTested m a es → Account m a es (l .load) (l .since)
 account-of es l m a =
-    subst (λ (x : List Event). EachTested m a x → Account m a x (l .load) (l .since)) (sym (l .all-of))
+    subst (λ (x : List Event). EachTested m a x → Account m a x (l .load) (l .since)) (sym (l .split))
     (λ h. account-behind (l .before) (l .load) (l .since) m a h (l .loads) (l .held))
 
 -- a loading behind one command more
@@ -241,7 +250,7 @@ behind e l = record {
   before = e ∷ l .before;
   load = l .load;
   since = l .since;
-  all-of = ap (λ (x : List Event). e ∷ x) (l .all-of);
+  split = ap (λ (x : List Event). e ∷ x) (l .split);
   loads = l .loads;
   held = l .held;
 }
@@ -256,7 +265,7 @@ loaded-by (e ∷ es) m a t =
     (λ x. by-test (keepsKey e)
     (λ k. inl (sym (key-kept m a e (true-holds k) .key) ∙ x .0, rw k (x .1)))
     (λ k. by-test (isLoading e)
-    (λ l. inr (record { before = []; load = e; since = es; all-of = refl; loads = true-holds l; held = x .1 }))
+    (λ l. inr (record { before = []; load = e; since = es; split = refl; loads = true-holds l; held = x .1 }))
     (λ l. absurd (true≢false (sym (x .0) ∙ key-forgotten m a e k l)))))
     (λ l. inr (behind e l))
     (loaded-by es (withCommand m e) (availableWith m a e) t)

@@ -1,6 +1,6 @@
 -- A play that writes a row, by its cases: a row before the first command, a refusal that ends the session, an accepted 00, and a command that goes on.
 -- Assumes nothing.
-use mathlib.Core.Path.{_≡_, refl, sym, subst, _∙_}
+use mathlib.Core.Path.{_≡_, refl, subst}
 use mathlib.Core.Bool.{true, false, not, cond}
 use mathlib.Core.List.{List}
 use mathlib.Core.Option.{Option}

@@ -23,13 +23,11 @@ use Rattle.encoding.specs.Bytes.{valueOf, numbers, signed16}
 use Rattle.encoding.specs.Challenge.{areEntries}
 use Rattle.encoding.specs.Encoding.{isKeyByte, keyCoefficient, areExponents, areEvaluations, entriesIn}
 use Rattle.encoding.proofs.Parts.{length-numbers}
-use Rattle.challenge.specs.Draw.{drawChallenge}
-use Rattle.scheme.specs.Scheme.{verdict}
 use Rattle.refusal.specs.Numbers.{nonePasses, notHeld, noneLeft}
 use Rattle.refusal.specs.declared.Signing.{Signing}
 use Rattle.refusal.specs.declared.Signing.the-variants as signing
 use Rattle.signing.specs.Sign.{signAnswer, signWritten}
-use Rattle.checking.specs.Check.{bodyRead, verdictAfter}
+use Rattle.checking.specs.Check.{verdictAfter}
 use Rattle.passign.specs.Hiding.{ourLibrary}
 use Rattle.passign.proofs.SignatureSize.{entry-signature-size}
 use Rattle.text.specs.Text.{decimal, hex, spaced}
@@ -82,12 +80,12 @@ pub record RefusalFacts (h : Held) (ended : Bool) (d : Result) : Type 0 where
   pub ends : ended ≡ isEnding (d .number)
 
 -- a 06 that does not end the session is refused with 10 just where something that it needs is not available, else with 17 just where no signature is left
-pub record SixTested (a : Available) (n : ℕ) : Type 0 where
+pub record SigningTested (a : Available) (n : ℕ) : Type 0 where
   pub lacks : eqb n notHeld ≡ not (canSign a)
   pub spent : canSign a ≡ true → eqb n noneLeft ≡ eqb (a .left) 0
 
 abbrev pub TestedBy : Available → ℕ → ℕ → Type 0
-TestedBy a b n = b ≡ 6 → isEnding n ≡ false → SixTested a n
+TestedBy a b n = b ≡ 6 → isEnding n ≡ false → SigningTested a n
 
 -- what is held after a command is what is read, a 06 signs with the material or finds that no mask passes or that no signature is left, an accepted 00
 -- alone ends the session, and the row has room: fewer than 1,153 evaluations of twelve bytes each, or a signature of at most 2,435 bytes in hex
@@ -95,7 +93,7 @@ pub record CommandFacts (m : Material) (a : Available) (h : Held) (b : ℕ) (op 
   pub keeps : KeptAll (withCommand m (played b op (d .number))) (availableWith m a (played b op (d .number))) (d .held)
   pub signs : b ≡ 6 → d .number ≡ 0 → SignedWith m (d .payload)
   pub nine : b ≡ 6 → d .number ≡ nonePasses → NineWith m
-  pub six : TestedBy a b (d .number)
+  pub tested : TestedBy a b (d .number)
   pub judges : b ≡ 7 → d .number ≡ 0 → d .payload ≡ verdictPrinted m a op
   pub prints : b ≡ 3 → d .number ≡ 0 → d .payload ≡ evaluationsPrinted m a op
   pub refusal : (d .number ≡ 0 → ⊥) → RefusalFacts h ended d
@@ -107,11 +105,11 @@ module _ (m : Material) (a : Available) (h : Held) (w : KeptAll m a h) (op : Lis
   pub refused-facts : (b n : ℕ) {ended : Bool} → eqb n 0 ≡ false → eqb n 9 ≡ false → ended ≡ isEnding n → TestedBy a b n
       → CommandFacts m a h b op ended (refused n h)
   unfolding withCommand availableWith
-  refused-facts b n z q e six = record {
+  refused-facts b n z q e tested = record {
     keeps = rw (z, q) w;
     signs = λ s y. absurd (eqb-false n 0 z y);
     nine = λ s y. absurd (eqb-false n 9 q y);
-    six = six;
+    tested = tested;
     judges = λ s y. absurd (eqb-false n 0 z y);
     prints = λ s y. absurd (eqb-false n 0 z y);
     refusal = λ y. record { leaves = rw q; alone = refl; ends = e };
@@ -127,7 +125,7 @@ module _ (m : Material) (a : Available) (h : Held) (w : KeptAll m a h) (op : Lis
     keeps = keeps;
     signs = λ s y. absurd (eqb-false b 6 other s);
     nine = λ s y. absurd (eqb-false b 6 other s);
-    six = λ s. absurd (eqb-false b 6 other s);
+    tested = λ s. absurd (eqb-false b 6 other s);
     judges = λ s y. absurd (eqb-false b 7 seventh s);
     prints = λ s y. printed s;
     refusal = λ y. absurd (y refl);
@@ -219,7 +217,7 @@ module _ (m : Material) (a : Available) (h : Held) (w : KeptAll m a h) (op : Lis
 
     -- the library answers with what is held, which is the material, and signatures are left
     after-answer : (x : Signing) (bytes : List ℕ) → answerWith m ≡ x → bytes ≡ bytesWith m → ((n : ℕ) → answerWith m ≡ signing.Refused n → n ≡ 9)
-        → leftOf (h .key) ≡ a .left → ((n : ℕ) → n < 10 → SixTested a n) → Facts 6 (afterSigning c h x bytes)
+        → leftOf (h .key) ≡ a .left → ((n : ℕ) → n < 10 → SigningTested a n) → Facts 6 (afterSigning c h x bytes)
     unfolding withCommand withAccepted availableWith availableWithAccepted
     after-answer (signing.Signed i) bytes e b nine same tested = record {
       keeps = rw (first-signs e, same) (keep-left (keep-masks w (ap (drop (suc i)) (w .masks .0)) (record {
@@ -228,7 +226,7 @@ module _ (m : Material) (a : Available) (h : Held) (w : KeptAll m a h) (op : Lis
       })) (a .left - 1));
       signs = λ six z. record { set = s; answer = rw (first-signs e) e; payload = rw (first-signs e, b) };
       nine = λ six z. absurd (omega arith);
-      six = λ six goes. tested 0 (omega arith);
+      tested = λ six goes. tested 0 (omega arith);
       judges = λ seven z. absurd (omega arith);
       prints = λ three z. absurd (omega arith);
       refusal = λ z. absurd (z refl);
@@ -242,7 +240,7 @@ module _ (m : Material) (a : Available) (h : Held) (w : KeptAll m a h) (op : Lis
           keeps = keep-masks w refl (record { each = tt; few = omega arith });
           signs = λ six z. absurd (omega arith);
           nine = λ six z. record { set = s; answer = e ∙ ap signing.Refused (nine n e) };
-          six = λ six goes. tested 9 (omega arith);
+          tested = λ six goes. tested 9 (omega arith);
           judges = λ seven z. absurd (omega arith);
           prints = λ three z. absurd (omega arith);
           refusal = λ z. record { leaves = refl; alone = refl; ends = refl };
@@ -259,12 +257,12 @@ module _ (m : Material) (a : Available) (h : Held) (w : KeptAll m a h) (op : Lis
     can-sign = rw (is-available (w .exponents), is-available (w .key), is-available (w .message))
 
     -- with all that it needs, and a number that is neither 10 nor 17
-    some-left : canSign a ≡ true → eqb (a .left) 0 ≡ false → (n : ℕ) → n < 10 → SixTested a n
+    some-left : canSign a ≡ true → eqb (a .left) 0 ≡ false → (n : ℕ) → n < 10 → SigningTested a n
     some-left can left n low =
         record { lacks = rw (can, ne-eqb n 10 (λ e. omega arith)); spent = λ e. rw (left, ne-eqb n 17 (λ e. omega arith)) }
 
     -- without it
-    nothing-signs : forSigning h ≡ false → SixTested a 10
+    nothing-signs : forSigning h ≡ false → SigningTested a 10
     nothing-signs lacks =
         let cannot = sym can-sign ∙ lacks in
         record { lacks = rw cannot; spent = λ can. absurd (true≢false (sym can ∙ cannot)) }
@@ -290,7 +288,7 @@ module _ (m : Material) (a : Available) (h : Held) (w : KeptAll m a h) (op : Lis
       keeps = w;
       signs = λ six z. absurd (omega arith);
       nine = λ six z. absurd (omega arith);
-      six = λ six. absurd (omega arith);
+      tested = λ six. absurd (omega arith);
       judges = λ seven z. ap judged e;
       prints = λ three z. absurd (omega arith);
       refusal = λ z. absurd (z refl);

@@ -4,7 +4,7 @@
 -- rows, refused ones among them; the number left is the session's own. It decides 17: a 06 that does not end the session is refused with 10 just where
 -- points, key or message are not held, else with 17 just where none is left. A session holds no key but one that was loaded and is held since.
 -- Assumes nothing.
-use mathlib.Core.Path.{_≡_, sym, ap, _∙_}
+use mathlib.Core.Path.{_≡_, sym, _∙_}
 use mathlib.Core.Bool.{true, true≢false}
 use mathlib.Core.List.{List}
 use mathlib.Core.Logic.{⊎-elim}
@@ -14,21 +14,14 @@ use native.Mathlib.Omega.{arith}
 use borrow.Author.Tests.{eqb-true, eq-eqb, ne-eqb, not-true, not-false}
 use Rattle.algebra.proofs.Test.{holds-true}
 use Rattle.session_rules.specs.Held.{HeldKey}
-use Rattle.session_rules.specs.Play.{Session, opened}
-use Rattle.session_rules.specs.Plays.{Event, events, Material, noMaterial}
-use Rattle.session_rules.specs.HeldIsRead.{Available, noneAvailable, availableAfter, canSign}
+use Rattle.session_rules.specs.Play.{opened}
+use Rattle.session_rules.specs.Plays.{events, noMaterial}
+use Rattle.session_rules.specs.HeldIsRead.{noneAvailable, availableAfter, canSign}
 use Rattle.session_rules.specs.After.{after}
 use Rattle.session_rules.specs.KeyLife.{KeyLife}
 use Rattle.session_rules.proofs.Kept.{held-as, is-available}
-use Rattle.session_rules.proofs.Reaching.{step-facts, kept-opened, plays-by, kept-after}
-use Rattle.session_rules.proofs.Account.{EachTested, tested-front, tested-at, account-of, loaded-by}
-
--- each 06 is refused with 10 just where something that it needs is not available, else with 17 just where no signature is left
-each-tested : (file : List ℕ) (buffers : List (List ℕ)) → EachTested noMaterial noneAvailable (events file buffers)
-unfolding events
-each-tested file buffers =
-    plays-by file (λ (m : Material) (a : Available) (s : Session) (es : List Event) (t : Session). EachTested m a es)
-    (λ m a s w. tt) (λ m a s w g buffer es t rest. (step-facts m a s w file .six, rest)) noMaterial noneAvailable opened kept-opened buffers
+use Rattle.session_rules.proofs.Reaching.{kept-after}
+use Rattle.session_rules.proofs.Account.{each-tested, tested-front, tested-at, account-of, loaded-by}
 
 -- a key by its bytes
 same-key : {b c : List ℕ} {n : ℕ} → b ≡ c → _≡_ {A = Option HeldKey} (some (record { bytes = b; left = n })) (some (record { bytes = c; left = n }))
@@ -43,9 +36,10 @@ key-life file buffers =
     record {
       account = λ l.
           let r = account-of es l noMaterial noneAvailable tested in
-          let left = availableAfter noMaterial noneAvailable es .left in
-          (left, (held-as (w .key) (r .key) ∙ same-key (r .bytes), r .balance));
-      loaded = λ t. ⊎-elim (λ x. absurd (true≢false (sym (x .0)))) (λ l. l) (loaded-by es noMaterial noneAvailable (sym (is-available (w .key)) ∙ holds-true _ t));
+          record { left = availableAfter noMaterial noneAvailable es .left; key = held-as (w .key) (r .key) ∙ same-key (r .bytes); balanced = r .balance };
+      loaded = λ t.
+          let available = sym (is-available (w .key)) ∙ holds-true _ t in
+          ⊎-elim (λ x. absurd (true≢false (sym (x .0)))) (λ l. l) (loaded-by es noMaterial noneAvailable available);
       lacks = λ front e rest is six goes.
           let same = tested-at front e rest noMaterial noneAvailable (rw is at tested) six goes .lacks in
           let can = canSign (availableAfter noMaterial noneAvailable front) in

@@ -144,9 +144,12 @@ withCommand m e =
     cond (eqb (e .number) 0) (withAccepted m (e .byte) (e .operand))
     (cond (eqb (e .number) nonePasses) (readMasks m []) m)
 
--- an accepted 06
+-- an accepted command with byte b, and an accepted 06
+abbrev pub isAccepted : ℕ → Event → Bool
+isAccepted b e = eqb (e .byte) b && eqb (e .number) 0
+
 abbrev pub isSigning : Event → Bool
-isSigning e = eqb (e .byte) 6 && eqb (e .number) 0
+isSigning = isAccepted 0x06
 
 -- the accepted 06 commands in order, each as a signing that was made with its material
 unfoldable pub signingsFrom : Material → List Event → List SigningRecord

@@ -1,5 +1,5 @@
--- examples/sessions/key-life.session: a session of set 0 in which 06 is refused with 10, 17 and 9, each ahead of the others where it comes first, and a key with
--- one signature left signs. Its bytes and its rows.
+-- examples/sessions/key-life.session: a session of set 0 in which 06 is refused with 10, 17 and 9, each before those that come after it, and a key with one
+-- signature left signs. Its bytes and its rows.
 -- Assumes nothing.
 use mathlib.Core.List.{List, [], _∷_, _++_}
 use Prim.Native.Nat.{ℕ}

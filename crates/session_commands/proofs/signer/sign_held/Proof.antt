@@ -68,8 +68,8 @@ module _ (c : tie.After-sign-with) where
       signs (a .p) (a .flags) (a .exponents .now) (a .key .now) v (a .masks .now) (a .message .now) held (c .before .before .before .if1 .left) answer
 
 -- 9 drops all masks, any other refusal none
-left-held : (p : Params) (f : Flags) (e k v : List ℕ) (m : List ℤ) (t : List ℕ) (nine : Bool) → heldIn p (counting f (cond nine 0 (f .count)) (f .left)) e k v m t
-    ≡ cond nine (withMasks (heldIn p f e k v m t) []) (heldIn p f e k v m t)
+left-held : (p : Params) (f : Flags) (e k v : List ℕ) (m : List ℤ) (t : List ℕ) (nine : Bool) → let h = heldIn p f e k v m t in
+    heldIn p (counting f (cond nine 0 (f .count)) (f .left)) e k v m t ≡ cond nine (withMasks h []) h
 unfolding heldIn
 left-held p f e k v m t true = refl
 left-held p f e k v m t false = refl
