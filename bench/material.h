@@ -77,6 +77,7 @@ static void command(uint8_t number, int mask)
     case 5: bytes(message, 64); break;
     case 7: bytes(signatures[mask] + 1, signature_size() - 1); break;
     case 8: bytes(public_key + 1 + 2 * s->t, 3 * s->t); break;
+    case 10: word(65535); break;
     }
 }
 

@@ -2,7 +2,7 @@
    signings and checks beside the same calls of the library. Least times, in microseconds. */
 #include "material.h"
 
-enum { STATE = 26607 }; /* a Session, as the compiler copies it */
+enum { STATE = 26609 }; /* a Session, as the compiler copies it */
 
 static uint8_t rows[ROW_BUFFER], copies[2][STATE];
 
@@ -24,10 +24,12 @@ static void library_calls(void)
     }
 }
 
-/* a file with many of the command, less one with none */
+/* a file with many of the command, less one with none; 0A needs a key */
 static void measure_command(uint8_t number, int count)
 {
     begin_file();
+    if (number == 10)
+        command(3, 0);
     double none = least_of(plays);
     for (int i = 0; i < count; i++)
         command(number, 0);
@@ -44,6 +46,7 @@ int main(void)
     measure_command(4, 8);
     measure_command(5, 900);
     measure_command(8, 30);
+    measure_command(10, 20000);
     printf("%-28s %10s %10s %6s\n", "signings and checks", "calls", "session", "ratio");
     for (int number = 1; number < 5; number++) {
         settle(number);

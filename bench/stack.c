@@ -98,8 +98,10 @@ static const struct { const char *name; void (*call)(void); uint32_t expected; }
 enum { FUNCTIONS = sizeof functions / sizeof *functions };
 
 /* each command behind those that it needs; last a whole session */
-static const char *const sessions[] = {"0", "1", "12", "123", "14", "15", "123546", "12857", "128", "123546780"};
+static const char *const sessions[] = {"0", "1", "12", "123", "14", "15", "123546", "12857", "128", "123A", "1235A46780"};
 enum { SESSIONS = sizeof sessions / sizeof *sessions };
+
+static uint8_t number_of(char digit) { return digit <= '9' ? digit - '0' : digit - 'A' + 10; }
 
 static void keep(size_t *most, size_t found) { *most = *most < found ? found : *most; }
 
@@ -122,7 +124,7 @@ int main(void)
             size = commands = 0;
             bytes((const uint8_t *)"PSG1", 4);
             for (const char *c = sessions[i]; *c; c++)
-                command(*c - '0', 0);
+                command(number_of(*c), 0);
             keep(&most_of_plays[i], least(plays, 0));
         }
     }
@@ -131,7 +133,7 @@ int main(void)
     for (int i = 0; i < SESSIONS; i++) {
         char name[64];
         const char *c = sessions[i];
-        snprintf(name, sizeof name, i + 1 < SESSIONS ? "plays up to an accepted %02d" : "plays of a whole session", c[strlen(c) - 1] - '0');
+        snprintf(name, sizeof name, i + 1 < SESSIONS ? "plays up to an accepted %02X" : "plays of a whole session", number_of(c[strlen(c) - 1]));
         print(name, most_of_plays[i]);
     }
     return 0;
