@@ -20,12 +20,17 @@ use Rattle.session_rules.specs.Held.{Chosen, Held, leftOf, withLeft, withMasks}
 use Rattle.session_rules.specs.Commands.{signed, accepted, refused, signatureRoom, afterSigning, sign}
 use Rattle.session_state.specs.declared.Flags.{Flags}
 use Rattle.session_state.specs.State.{hasExponents, masksHeld, chosenIn, heldIn}
-use Rattle.session_commands.proofs.Lent.{all-three, signs, spent}
+use Rattle.session_commands.proofs.Lent.{AllThree, all-three, signs, spent}
 use Rattle.session_commands.proofs.signer.sign_held.Statement.{statement}
 use Rattle.session_commands.proofs.signer.sign_held.Tie as tie
 
 limited : (s : tie.Start) → Limited (s .args .p)
 limited s = rw (s .pre .0 .0 .is) (set-limited (s .args .flags .set))
+
+-- all that a 06 needs is held
+all-held : (s : tie.Start) → let a = s .args in
+    AllThree (hasExponents (a .p) (a .flags .exponents) (a .exponents .now)) (a .flags .key) (a .flags .message)
+all-held s = let a = s .args in all-three (hasExponents (a .p) (a .flags .exponents) (a .exponents .now)) (a .flags .key) (a .flags .message) (s .pre .1 .1)
 
 -- flags with other numbers of masks and of signatures left
 abbrev counting : Flags → ℕ → ℕ → Flags
@@ -63,9 +68,9 @@ module _ (c : tie.After-sign-with) where
       (flatten (masksHeld (a .p .n) (a .flags .count) (a .masks .now))) (a .message .now) (signatureRoom (a .p)))
   decided told v =
       let a = begun .args in
-      let held = all-three (hasExponents (a .p) (a .flags .exponents) (a .exponents .now)) (a .flags .key) (a .flags .message) (begun .pre .1 .1) in
       let answer = sym told ∙ c .sign-with .ensures .answers in
-      signs (a .p) (a .flags) (a .exponents .now) (a .key .now) v (a .masks .now) (a .message .now) held (c .before .before .before .if1 .left) answer
+      signs (a .p) (a .flags) (a .exponents .now) (a .key .now) v (a .masks .now) (a .message .now) (all-held begun)
+      (c .before .before .before .if1 .left) answer
 
 -- 9 drops all masks, any other refusal none
 left-held : (p : Params) (f : Flags) (e k v : List ℕ) (m : List ℤ) (t : List ℕ) (nine : Bool) → let h = heldIn p f e k v m t in
@@ -85,11 +90,10 @@ one-less p f e k v m m' t count used key masks = rw (key, masks)
 returns : tie.Need-returns
 returns c =
     let s = c .before .before .before .before .before .before .before in
-    let a = s .args in
-    let held = all-three (hasExponents (a .p) (a .flags .exponents) (a .exponents .now)) (a .flags .key) (a .flags .message) (s .pre .1 .1) in (
+    let a = s .args in (
       λ v. rw (
         c .plain .ensures,
-        spent (a .p) (a .flags) (a .exponents .now) (a .key .now) v (a .masks .now) (a .message .now) (held .second) (c .before .if1 .taken),
+        spent (a .p) (a .flags) (a .exponents .now) (a .key .now) v (a .masks .now) (a .message .now) (all-held s .second) (c .before .if1 .taken),
       ),
       rw (c .plain .ensures),
     )
@@ -100,11 +104,10 @@ returns-2 c =
     let a = begun r .args in
     let answer = c .before .before .before .before .before .before .answer .given in
     let told = answer .1 in
-    let dropped = rw add-one at (c .before .before .before .drop-masks .ensures) in
-    let held = all-three (hasExponents (a .p) (a .flags .exponents) (a .exponents .now)) (a .flags .key) (a .flags .message) (begun r .pre .1 .1) in (
+    let dropped = rw add-one at (c .before .before .before .drop-masks .ensures) in (
       λ v. ap₂ (λ (h : Held) (bytes : List ℕ). accepted h (signed (answer .0 .0) bytes))
-          (one-less (a .p) (a .flags) (a .exponents .now) (a .key .now) v (a .masks .now) _ (a .message .now) _ (suc (answer .0 .0)) (held .second)
-          dropped)
+          (one-less (a .p) (a .flags) (a .exponents .now) (a .key .now) v (a .masks .now) _ (a .message .now) _ (suc (answer .0 .0))
+          (all-held (begun r) .second) dropped)
           (ap (λ (size : ℕ). take size (r .sign-with .last .1 .1 .1 .1 .1 .1 .0)) (c .signature-size .ensures .0) ∙ r .sign-with .ensures .writes told)
           ∙ sym (decided r told v),
       refl,
