@@ -119,6 +119,15 @@ def add(w, command, mistakes=0.0):
     w.add(command, OPERANDS[command](w, mistakes))
 
 
+def add_passing(w):
+    """A mask that passes, whatever the key."""
+    w.add(0x04, encodings.number_bytes(material.passing_mask(w.rng, w.set), 2, signed=True))
+
+
+def grant(w, number):
+    w.add(0x0A, number.to_bytes(2, "big"))
+
+
 # ── Sessions ────────────────────────────────────────────────────────────────────────────────────
 
 def begun(rng, s):
@@ -185,7 +194,7 @@ def passed_over(rng, s):
         y = material.failing_mask(rng, s, held.key, held.points, held.message)
         w.add(0x04, encodings.number_bytes(y, 2, signed=True))
     for _ in range(rng.randint(1, 2)):
-        w.add(0x04, encodings.number_bytes(material.passing_mask(rng, s), 2, signed=True))
+        add_passing(w)
     for _ in range(rng.randint(1, 4)):
         add(w, 0x06)
     w.add(0x00)
@@ -282,14 +291,6 @@ def cut_inside(command):
         w.add(command, operand[:rng.choice((0, 1, len(operand) // 2, len(operand) - 1)) % len(operand)])
         return bytes(w.file)
     return make
-
-
-def grant(w, number):
-    w.add(0x0A, number.to_bytes(2, "big"))
-
-
-def add_passing(w):
-    w.add(0x04, encodings.number_bytes(material.passing_mask(w.rng, w.set), 2, signed=True))
 
 
 def spent(rng, s):

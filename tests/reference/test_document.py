@@ -163,7 +163,7 @@ def test_before_the_first_command_and_at_the_end():
 
 
 def test_grants():
-    """Request #105: the tests of 0A in order, and those of 06 with the second case's key, the message held last and no mask."""
+    """Request #105: the tests of 0A in order, and those of 06 with the key of the document's session, the message held last and no mask."""
     played = session.play_to_the_end
     assert played(b"PSG1\x09") == b"1 09 14\n" and played(b"PSG1\x0a") == b"1 0A 3\n"
     assert played(b"PSG1\1\0\x0a\0") == b"1 01 0\n2 0A 13\n"
