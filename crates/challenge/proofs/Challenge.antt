@@ -89,7 +89,7 @@ module _ (p : Params) (bytes : List ℕ) where
       record { size = rw f at (h .size); small = rw f at (h .small); exact = rw f at (h .exact) ∙ eqb-true (length js) (p .b) t })
       (λ t e. let z : _≡_ {A = ℕ} 0 1 = cc in absurd (omega arith))
 
--- and so is the challenge of a commitment and a message
-pub challenge-sparse : (p : Params) (w message : List ℕ) (c : List ℤ) → drawChallenge p w message ≡ some c → Sparse p c
+-- and so is the challenge of a commitment and a message, under any rule
+pub challenge-sparse : (rule : ℕ) (p : Params) (w message : List ℕ) (c : List ℤ) → drawChallenge rule p w message ≡ some c → Sparse p c
 unfolding drawChallenge
-challenge-sparse p w message = drawn-sparse p _
+challenge-sparse rule p w message = drawn-sparse p _

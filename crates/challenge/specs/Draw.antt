@@ -58,9 +58,9 @@ draw p bytes =
     (some (placed p bytes (kept p bytes (valueCount bytes))))
     none
 
--- the challenge of a commitment and a message
-unfoldable pub drawChallenge : Params → List ℕ → List ℕ → Option (List ℤ)
-drawChallenge p w message = draw p (pool w message)
+-- the way to draw of each rule: the challenge of a commitment and a message
+unfoldable pub drawChallenge : ℕ → Params → List ℕ → List ℕ → Option (List ℤ)
+drawChallenge rule p w message = draw p (pool rule w message)
 
 -- what the drawer's answer says: its first N coefficients, or that the pool is spent
 abbrev pub drawnOf : Params → Drawn → Option (List ℤ)

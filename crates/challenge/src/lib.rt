@@ -7,12 +7,20 @@ ghost use Rattle.parameters.specs.Limits.{maxT};
 ghost use Rattle.parameters.specs.Sound.{Fitting};
 ghost use Rattle.challenge.specs.Asks.{DigestSizes};
 ghost use Rattle.challenge.specs.Draw.{signAt, valueAt, draw, drawChallenge, drawnOf};
-ghost use Rattle.challenge.specs.Pool.{commitmentBytes, pool, poolDigests};
+ghost use Rattle.challenge.specs.Pool.{lowByteRule, threeByteRule, isRule, commitmentBytes, pool, poolDigests};
 use parameters::MAX_N;
 use parameters::MAX_T;
 use parameters::Params;
 use sha512::sha512;
 use sha512::sha512_of_two;
+
+// The rules of hashing: the low byte of each evaluation, or all three bytes.
+pub const RULE_LOW_BYTE: u8 = 1;
+
+pub const RULE_THREE_BYTES: u8 = 2;
+
+// Room for three bytes of each of MAX_T evaluations.
+const THREE_BYTES_ROOM: usize = 3456;
 
 // The drawer's answer: whether the pool yielded b indices, and if so the challenge, N coefficients in front.
 pub struct Drawn {
@@ -20,22 +28,44 @@ pub struct Drawn {
     pub challenge: [i8; MAX_N],
 }
 
-// The remainder by 256 of an evaluation in 0..q-1.
+pub fn is_rule(rule: u8) -> bool
+    ensures { λ r. ⌜ r ≡ isRule rule ⌝ }
+{
+    (rule == RULE_LOW_BYTE) | (rule == RULE_THREE_BYTES)
+}
+
 fn low_byte(e: u32) -> u8
     ensures { λ r. ⌜ r ≡ e % 256 ⌝ }
 {
     (e % 256) as u8
 }
 
-// The commitment bytes, in front.
-fn commitment_bytes(evaluations: &[u32]) -> [u8; MAX_T]
+// The commitment bytes under rule 1, in front.
+fn low_bytes(evaluations: &[u32]) -> [u8; MAX_T]
     requires { ⌜ length (now evaluations) ≤ maxT ⌝ }
-    ensures { λ r. ⌜ take (length (now (evaluations .entry))) r ≡ commitmentBytes (now (evaluations .entry)) ⌝ }
+    ensures { λ r. ⌜ take (length (now (evaluations .entry))) r ≡ commitmentBytes lowByteRule (now (evaluations .entry)) ⌝ }
 {
     let mut bytes = [0u8; MAX_T];
     let mut i = 0;
     while i < evaluations.len() {
         bytes[i] = low_byte(evaluations[i]);
+        i += 1;
+    }
+    bytes
+}
+
+// The commitment bytes under rule 2, in front.
+fn three_bytes(evaluations: &[u32]) -> [u8; THREE_BYTES_ROOM]
+    requires { ⌜ length (now evaluations) ≤ maxT ⌝ }
+    ensures { λ r. ⌜ take (3 * length (now (evaluations .entry))) r ≡ commitmentBytes threeByteRule (now (evaluations .entry)) ⌝ }
+{
+    let mut bytes = [0u8; THREE_BYTES_ROOM];
+    let mut i = 0;
+    while i < evaluations.len() {
+        let e = evaluations[i];
+        bytes[3 * i] = low_byte(e);
+        bytes[3 * i + 1] = low_byte(e / 256);
+        bytes[3 * i + 2] = low_byte(e / 256 / 256);
         i += 1;
     }
     bytes
@@ -71,13 +101,18 @@ fn flat(digests: [[u8; 64]; 8]) -> [u8; 512]
     bytes
 }
 
-// The pool of a commitment and a message.
-pub fn pool_of(evaluations: &[u32], message: &[u8]) -> [u8; 512]
+// The pool of a commitment and a message under a rule.
+pub fn pool_of(evaluations: &[u32], message: &[u8], rule: u8) -> [u8; 512]
     requires { ⌜ length (now evaluations) ≤ maxT ⌝ }
-    ensures { λ r. ⌜ r ≡ pool (now (evaluations .entry)) (now (message .entry)) ⌝ }
+    ensures { λ r. ⌜ r ≡ pool rule (now (evaluations .entry)) (now (message .entry)) ⌝ }
 {
-    let bytes = commitment_bytes(evaluations);
     let count = evaluations.len();
+    if rule == RULE_THREE_BYTES {
+        let bytes = three_bytes(evaluations);
+        let size = 3 * count;
+        return flat(pool_digests(&bytes[..size], message));
+    }
+    let bytes = low_bytes(evaluations);
     flat(pool_digests(&bytes[..count], message))
 }
 
@@ -136,12 +171,12 @@ pub fn draw_from(p: Params, pool: &[u8]) -> Drawn
     }
 }
 
-// The challenge of a commitment and a message, or that their pool is spent.
-pub fn challenge_of(p: Params, evaluations: &[u32], message: &[u8]) -> Drawn
+// The challenge of a commitment and a message under a rule, or that their pool is spent.
+pub fn challenge_of(p: Params, evaluations: &[u32], message: &[u8], rule: u8) -> Drawn
     requires { ⌜ Fitting p ⌝ }
     requires { ⌜ length (now evaluations) ≤ maxT ⌝ }
-    ensures { λ r. ⌜ drawnOf p r ≡ drawChallenge p (now (evaluations .entry)) (now (message .entry)) ⌝ }
+    ensures { λ r. ⌜ drawnOf p r ≡ drawChallenge rule p (now (evaluations .entry)) (now (message .entry)) ⌝ }
 {
-    let pool = pool_of(evaluations, message);
+    let pool = pool_of(evaluations, message, rule);
     draw_from(p, &pool)
 }

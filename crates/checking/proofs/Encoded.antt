@@ -38,9 +38,9 @@ module _ (set : ℕ) (js vs message body : List ℕ) (known : isSet set ≡ true
         lengths = rw (eq-eqb (length (publicKey set js vs)) (publicKeySize p) size, eq-eqb (length (set ∷ body)) (signatureSize p) signature-size);
       }
 
-  pub encoded-answer : checkAnswer (publicKey set js vs) message (set ∷ body) ≡ answerOn drawChallenge (setOf set) js vs message body
+  pub encoded-answer : (rule : ℕ) → checkAnswer rule (publicKey set js vs) message (set ∷ body) ≡ answerOn drawChallenge rule (setOf set) js vs message body
   unfolding publicKey
-  encoded-answer =
-      guarded-answer (publicKey set js vs) message (set ∷ body) encoded-guarded
-      ∙ ap₂ (λ (x y : List ℕ). answerOn drawChallenge (setOf set) x y message body) (exponents-read-back (setOf set) set js vs range)
+  encoded-answer rule =
+      guarded-answer (publicKey set js vs) message (set ∷ body) encoded-guarded rule
+      ∙ ap₂ (λ (x y : List ℕ). answerOn drawChallenge rule (setOf set) x y message body) (exponents-read-back (setOf set) set js vs range)
       (evaluations-read-back (setOf set) set js vs range)

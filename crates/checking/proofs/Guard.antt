@@ -25,8 +25,8 @@ ahead : (t : Bool) (a : ℕ) {x y : ℕ} → ((x ≡ 0 → ⊥) → y ≡ x) →
 ahead true a same n = refl
 ahead false a same n = same n
 
-module _ (key message signature : List ℕ) where
-  pub guard-first : (guardRefusal key message signature ≡ 0 → ⊥) → checkRefusal key message signature ≡ guardRefusal key message signature
+module _ (rule : ℕ) (key message signature : List ℕ) where
+  pub guard-first : (guardRefusal key message signature ≡ 0 → ⊥) → checkRefusal rule key message signature ≡ guardRefusal key message signature
   unfolding guardRefusal checkRefusal checkRefusalIn
   guard-first =
       ahead (isLong message || eqb (length signature) 0) wrongLength
@@ -35,6 +35,7 @@ module _ (key message signature : List ℕ) where
       (ahead (not (eqb (setByte signature) (setByte key))) wrongSet
       (ahead (not (checkLengths (setIn key) (length key) (length signature))) wrongLength (λ n. absurd (n refl))))))
 
+module _ (key message signature : List ℕ) where
   -- what the guard lets through
   pub record Guarded : Type 0 where
     pub sizes : (isLong message || eqb (length signature) 0) ≡ false
@@ -55,14 +56,14 @@ module _ (key message signature : List ℕ) where
     pub guarded-sizes : (length key ≡ publicKeySize (setIn key)) × (length signature ≡ signatureSize (setIn key))
     guarded-sizes = both-equal (length key) (publicKeySize (setIn key)) (length signature) (signatureSize (setIn key)) (g .lengths)
 
-    pub guarded-answer : let p = setIn key in
-        checkAnswer key message signature ≡ answerOn drawChallenge p (exponentsOf p key) (evaluationsOf p key) message (drop 1 signature)
+    pub guarded-answer : (rule : ℕ) → let p = setIn key in
+        checkAnswer rule key message signature ≡ answerOn drawChallenge rule p (exponentsOf p key) (evaluationsOf p key) message (drop 1 signature)
     unfolding checkAnswer checkRefusal checkRefusalIn checkVerdict answerOn
-    guarded-answer = rw (g .sizes, g .has-set .some, g .has-set .set, g .same-set, g .lengths)
+    guarded-answer rule = rw (g .sizes, g .has-set .some, g .has-set .set, g .same-set, g .lengths)
 
     -- on lists decoded from the encodings as the code lends them, without their set bytes
-    pub decoded-answer : {p : Params} {js vs : List ℕ} → p ≡ setIn key → js ≡ exponentsIn p (take (length key - 1) (drop 1 key))
+    pub decoded-answer : (rule : ℕ) {p : Params} {js vs : List ℕ} → p ≡ setIn key → js ≡ exponentsIn p (take (length key - 1) (drop 1 key))
         → vs ≡ evaluationsIn p (take (length key - 1) (drop 1 key))
-        → answerOn drawChallenge p js vs message (take (length signature - 1) (drop 1 signature)) ≡ checkAnswer key message signature
+        → answerOn drawChallenge rule p js vs message (take (length signature - 1) (drop 1 signature)) ≡ checkAnswer rule key message signature
     unfolding exponentsOf evaluationsOf
-    decoded-answer is e f = rw (e, f, take-rest key 1, take-rest signature 1, is) (sym guarded-answer)
+    decoded-answer rule is e f = rw (e, f, take-rest key 1, take-rest signature 1, is) (sym (guarded-answer rule))

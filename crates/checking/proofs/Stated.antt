@@ -19,9 +19,9 @@ states-after true n false = refl
 states-after false n holds = refl
 
 -- so a call that answers as defined states it
-pub stating : (key message signature : List ℕ) {r : Verdict} → r ≡ checkAnswer key message signature
-    → (r ≡ checkAnswer key message signature) × (verdictStates r ≡ checkStated key message signature)
+pub stating : (rule : ℕ) (key message signature : List ℕ) {r : Verdict} → r ≡ checkAnswer rule key message signature
+    → (r ≡ checkAnswer rule key message signature) × (verdictStates r ≡ checkStated rule key message signature)
 unfolding checkAnswer checkStated
-stating key message signature e =
-    let n = checkRefusal key message signature in
-    (e, ap verdictStates e ∙ states-after (eqb n 0) n (checkVerdict drawChallenge (setIn key) key message signature))
+stating rule key message signature e =
+    let n = checkRefusal rule key message signature in
+    (e, ap verdictStates e ∙ states-after (eqb n 0) n (checkVerdict (drawChallenge rule) (setIn key) key message signature))

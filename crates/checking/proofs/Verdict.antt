@@ -7,11 +7,10 @@ use mathlib.Core.Option.{Option}
 use Prim.Native.Nat.{ℕ, _-_}
 use lib.IntN.{ℤ}
 use Rattle.algebra.specs.Integer.{within}
-use Rattle.challenge.specs.Draw.{drawChallenge}
 use Rattle.parameters.specs.declared.Params.{Params}
-use Rattle.scheme.specs.Scheme.{Signature, recovered, isDrawn, verdict}
+use Rattle.scheme.specs.Scheme.{Drawer, Signature, recovered, isDrawn, verdict}
 
-pub verdict-is : (p : Params) (exponents message vs : List ℕ) (s : Signature) {t : Bool} {o : Option (List ℤ)} → t ≡ within (p .k - p .b) (s .z)
-    → o ≡ drawChallenge p (recovered p s exponents vs) message → (t && isDrawn o (s .c)) ≡ verdict drawChallenge p exponents message vs s
+pub verdict-is : (draw : Drawer) (p : Params) (exponents message vs : List ℕ) (s : Signature) {t : Bool} {o : Option (List ℤ)} → t ≡ within (p .k - p .b) (s .z)
+    → o ≡ draw p (recovered p s exponents vs) message → (t && isDrawn o (s .c)) ≡ verdict draw p exponents message vs s
 unfolding verdict
-verdict-is p exponents message vs s e f = ap₂ (λ (t : Bool) (o : Option (List ℤ)). t && isDrawn o (s .c)) e f
+verdict-is draw p exponents message vs s e f = ap₂ (λ (t : Bool) (o : Option (List ℤ)). t && isDrawn o (s .c)) e f

@@ -24,11 +24,11 @@ use Rattle.checking.specs.Check.{checkLengths}
 abbrev pub signatureWith : List ℤ → List ℤ → Signature
 signatureWith c z = record { c = c; z = z }
 
--- the paper's rule on it, with document 01's way to draw
-abbrev pub ruleOf : Params → List ℕ → List ℕ → List ℕ → List ℤ → List ℤ → Bool
-ruleOf p exponents message vs c z = verdict drawChallenge p exponents message vs (signatureWith c z)
+-- the paper's rule on it, with the way to draw of a rule of hashing
+abbrev pub verdictOn : ℕ → Params → List ℕ → List ℕ → List ℕ → List ℤ → List ℤ → Bool
+verdictOn rule p exponents message vs c z = verdict (drawChallenge rule) p exponents message vs (signatureWith c z)
 
--- what the rule asks of the lists that it is handed
+-- what the paper's rule asks of the lists that it is handed
 pub record Checkable (p : Params) (powers table exponents vs : List ℕ) (c z : List ℤ) : Type 0 where
   pub usable : Usable p powers
   pub split : SplitTable p table

@@ -18,8 +18,9 @@ ghost use Rattle.encoding.specs.Encoding.{areExponents};
 ghost use Rattle.refusal.specs.Answer.{verdictStates};
 ghost use Rattle.scheme.specs.Scheme.{differences, equal, equalℤ, recovered};
 ghost use Rattle.checking.specs.Check.{checkLengths, checkRefusalOf, answerOn, checkAnswer, checkStated};
-ghost use Rattle.checking.specs.Asks.{signatureWith, ruleOf, guardRefusal, Recoverable, Checkable};
+ghost use Rattle.checking.specs.Asks.{signatureWith, verdictOn, guardRefusal, Recoverable, Checkable};
 use challenge::challenge_of;
+use challenge::is_rule;
 use encoding::numbers::are_below;
 use encoding::numbers::are_exponents;
 use encoding::public_key::decode_public_key;
@@ -39,6 +40,7 @@ use refusal::WRONG_ENTRIES;
 use refusal::WRONG_EVALUATION;
 use refusal::WRONG_EXPONENTS;
 use refusal::WRONG_LENGTH;
+use refusal::WRONG_RULE;
 use refusal::WRONG_SET;
 use refusal::set_refusal;
 use refusal::unless;
@@ -155,16 +157,17 @@ fn verdict_of(
     c: &[i8],
     z: &[i16],
     message: &[u8],
+    rule: u8,
 ) -> bool
     requires { ⌜ Checkable p (now powers) (now split) (now exponents) (now evaluations) (now c) (now z) ⌝ }
-    ensures { λ r. ⌜ r ≡ ruleOf p (now (exponents .entry)) (now (message .entry)) (now (evaluations .entry)) (now (c .entry)) (now (z .entry)) ⌝ }
+    ensures { λ r. ⌜ r ≡ verdictOn rule p (now (exponents .entry)) (now (message .entry)) (now (evaluations .entry)) (now (c .entry)) (now (z .entry)) ⌝ }
 {
     let n = p.n;
     let t = p.t;
     let b = p.b;
     if in_range16(z, p.k - b as u32) {
         let commitment = recovered_commitment(p, powers, split, exponents, evaluations, c, z);
-        let drawn = challenge_of(p, &commitment[..t], message);
+        let drawn = challenge_of(p, &commitment[..t], message, rule);
         if drawn.complete {
             let challenge = drawn.challenge;
             return is_equal(&challenge[..n], c);
@@ -183,13 +186,14 @@ fn challenge_with(entries: &[u16], n: usize) -> [i8; MAX_N]
     c
 }
 
-// The refusal for exponents, evaluations and challenge entries, or 0.
-fn refusal_of(p: Params, exponents: &[u16], evaluations: &[u32], entries: &[u16]) -> u32
-    ensures { λ r. ⌜ r ≡ checkRefusalOf p (now (exponents .entry)) (now (evaluations .entry)) (now (entries .entry)) ⌝ }
+// The refusal for the rule, exponents, evaluations and challenge entries, or 0.
+fn refusal_of(p: Params, exponents: &[u16], evaluations: &[u32], entries: &[u16], rule: u8) -> u32
+    ensures { λ r. ⌜ r ≡ checkRefusalOf rule p (now (exponents .entry)) (now (evaluations .entry)) (now (entries .entry)) ⌝ }
 {
     let of_signature = unless(are_entries_of(entries, p.n), WRONG_ENTRIES, 0);
     let of_values = unless(are_below(evaluations, p.q), WRONG_EVALUATION, of_signature);
-    unless(are_exponents(exponents, p.n), WRONG_EXPONENTS, of_values)
+    let of_exponents = unless(are_exponents(exponents, p.n), WRONG_EXPONENTS, of_values);
+    unless(is_rule(rule), WRONG_RULE, of_exponents)
 }
 
 // Checks in a set on exponents and evaluations, and a signature's bytes without its set byte.
@@ -201,16 +205,17 @@ pub fn check_in(
     evaluations: &[u32],
     signature: &[u8],
     message: &[u8],
+    rule: u8,
 ) -> Verdict
     requires { ⌜ Usable p (now powers) × SplitTable p (now split) ⌝ }
     requires { ⌜ (length (now exponents) ≡ p .t) × (length (now evaluations) ≡ p .t) × (length (now signature) ≡ 2 * p .b + 2 * p .n) ⌝ }
-    ensures { λ r. ⌜ r ≡ answerOn drawChallenge p (now (exponents .entry)) (now (evaluations .entry)) (now (message .entry)) (now (signature .entry)) ⌝ }
+    ensures { λ r. ⌜ r ≡ answerOn drawChallenge rule p (now (exponents .entry)) (now (evaluations .entry)) (now (message .entry)) (now (signature .entry)) ⌝ }
 {
     let n = p.n;
     let b = p.b;
     let decoded = decode_signature(p, signature);
     let entries = decoded.entries;
-    let refusal = refusal_of(p, exponents, evaluations, &entries[..b]);
+    let refusal = refusal_of(p, exponents, evaluations, &entries[..b], rule);
     if refusal != 0 {
         return Verdict::Refused(refusal);
     }
@@ -225,6 +230,7 @@ pub fn check_in(
         &c[..n],
         &z[..n],
         message,
+        rule,
     ) {
         return Verdict::Yes;
     }
@@ -260,10 +266,10 @@ fn guard_refusal(public_key: &[u8], message: &[u8], signature: &[u8]) -> u32
     unless(signature[0] == set, WRONG_SET, of_lengths)
 }
 
-// Checks a signature of a message against a public key. Refuses with 1, 2, 1, 4, 7, 12; a point out of range is a no.
-pub fn check(public_key: &[u8], message: &[u8], signature: &[u8]) -> Verdict
-    ensures answer { λ r. ⌜ r ≡ checkAnswer (now («public_key» .entry)) (now (message .entry)) (now (signature .entry)) ⌝ }
-    ensures number { λ r. ⌜ verdictStates r ≡ checkStated (now («public_key» .entry)) (now (message .entry)) (now (signature .entry)) ⌝ }
+// Checks a signature of a message against a public key under a rule of hashing. Refuses with 1, 2, 1, 18, 4, 7, 12; a point out of range is a no.
+pub fn check(public_key: &[u8], message: &[u8], signature: &[u8], rule: u8) -> Verdict
+    ensures answer { λ r. ⌜ r ≡ checkAnswer rule (now («public_key» .entry)) (now (message .entry)) (now (signature .entry)) ⌝ }
+    ensures number { λ r. ⌜ verdictStates r ≡ checkStated rule (now («public_key» .entry)) (now (message .entry)) (now (signature .entry)) ⌝ }
 {
     let refusal = guard_refusal(public_key, message, signature);
     if refusal != 0 {
@@ -285,5 +291,6 @@ pub fn check(public_key: &[u8], message: &[u8], signature: &[u8]) -> Verdict
         &evaluations[..t],
         &signature[1..],
         message,
+        rule,
     )
 }

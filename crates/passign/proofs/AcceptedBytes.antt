@@ -21,7 +21,7 @@ use Rattle.encoding.specs.Encoding.{keyOf, signatureSize, SignatureRange, entri
 use Rattle.encoding.proofs.EntryCount.{length-entries}
 use Rattle.encoding.proofs.Sign.{mag-le}
 use Rattle.encoding.proofs.OneEncoding.{entries-read-back, z-read-back, signature-length, entries-accepted, entries-below, challenge-read-back}
-use Rattle.scheme.specs.Scheme.{Drawer, Signed}
+use Rattle.scheme.specs.Scheme.{Drawers, Signed}
 use Rattle.refusal.specs.Answer.{setByte}
 use Rattle.signing.specs.Signer.{maskAt, signatureOf}
 use Rattle.signing.specs.Sign.{signWrittenIn}
@@ -30,8 +30,8 @@ use Rattle.signing.proofs.AcceptedSigning.{SignedAs, signed-bytes, size-of-key,
 use Rattle.checking.specs.Check.{bodyRead, signatureRead}
 use Rattle.passign.specs.Hiding.{Encodable}
 
-module _ {draw : Drawer} {p : Params} {key exponents : List ℕ} {masks : List ℤ} {message out : List ℕ} {r : Signed} {i : ℕ}
-    (a : SignedAs draw p key exponents masks message out r i) (e : Encodable draw p) where
+module _ {draw : Drawers} {rule : ℕ} {p : Params} {key exponents : List ℕ} {masks : List ℤ} {message out : List ℕ} {r : Signed} {i : ℕ}
+    (a : SignedAs draw rule p key exponents masks message out r i) (e : Encodable (draw rule) p) where
   -- its challenge and its point, and the bytes
   abbrev c : List ℤ
   c = r .signature .c
@@ -40,7 +40,7 @@ module _ {draw : Drawer} {p : Params} {key exponents : List ℕ} {masks : List �
   z = r .signature .z
 
   abbrev bytes : List ℕ
-  bytes = signWrittenIn draw p key exponents masks message out
+  bytes = signWrittenIn draw rule p key exponents masks message out
 
   pub sparse-challenge : Sparse p c
   sparse-challenge = e .draws (evaluationResidues p (maskAt p masks i) exponents) message c (passes-of a .challenge)

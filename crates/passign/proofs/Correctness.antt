@@ -1,4 +1,4 @@
--- Correctness: whatever `sign` accepts, `check` says yes to it under the public key of the same secret key and points.
+-- Correctness: whatever `sign` accepts, `check` under the same rule of hashing says yes to it with the public key of the same secret key and points.
 -- Assumes nothing.
 use mathlib.Core.Path.{_≡_, sym, ap, _∙_}
 use mathlib.Core.Bool.{true}
@@ -14,7 +14,7 @@ use Rattle.challenge.specs.Draw.{drawChallenge}
 use Rattle.encoding.specs.Encoding.{publicKey, PublicKeyRange, areExponents, areEvaluations, exponentsOf, evaluationsOf, keyOf, signatureBytes}
 use Rattle.encoding.proofs.Range.{public-key-range}
 use Rattle.encoding.proofs.OneEncoding.{exponents-read-back, evaluations-read-back, public-key-length}
-use Rattle.scheme.specs.Scheme.{Drawer, Signed}
+use Rattle.scheme.specs.Scheme.{Drawers, Signed}
 use Rattle.scheme.proofs.Correctness as polynomials
 use Rattle.scheme.proofs.Verdict.{verdict-true}
 use Rattle.refusal.specs.declared.Signing.the-variants as signing
@@ -33,7 +33,7 @@ use Rattle.passign.proofs.VerdictRule.{verdict-yes}
 use Rattle.passign.proofs.FiveSets.{set-encodable}
 use Rattle.passign.proofs.Entry.{sign-entry, check-entry}
 
-module _ {draw : Drawer} {p : Params} (e : Encodable draw p) (key exponents : List ℕ) (masks : List ℤ) (message out : List ℕ) where
+module _ (draw : Drawers) (rule : ℕ) {p : Params} (e : Encodable (draw rule) p) (key exponents : List ℕ) (masks : List ℤ) (message out : List ℕ) where
   -- the public evaluations in 0..q-1, and what is checked
   abbrev vs : List ℕ
   vs = evaluationResidues p (keyOf key) exponents
@@ -42,9 +42,9 @@ module _ {draw : Drawer} {p : Params} (e : Encodable draw p) (key exponents : Li
   public = publicKeyIn p key exponents
 
   abbrev bytes : List ℕ
-  bytes = signWrittenIn draw p key exponents masks message out
+  bytes = signWrittenIn draw rule p key exponents masks message out
 
-  module _ {r : Signed} {i : ℕ} (a : SignedAs draw p key exponents masks message out r i) where
+  module _ {r : Signed} {i : ℕ} (a : SignedAs draw rule p key exponents masks message out r i) where
     below : areEvaluations p vs ≡ true
     below = holds-true (areEvaluations p vs) (evaluation-residues-below (e .sound) (keyOf key) exponents)
 
@@ -63,48 +63,49 @@ module _ {draw : Drawer} {p : Params} (e : Encodable draw p) (key exponents : Li
     evaluations-back = evaluations-read-back p (setByte key) exponents vs range
 
     -- the check is not refused
-    allowed : checkRefusalIn p public bytes ≡ 0
+    allowed : checkRefusalIn rule p public bytes ≡ 0
     unfolding publicKeyIn
-    allowed = check-allowed p public bytes .1 (record {
+    allowed = check-allowed rule p public bytes .1 (record {
       key-size = public-key-length p (setByte key) exponents vs range;
       signature-size = bytes-size a e;
+      rule-known = allowed-of a .rule-known;
       exponents-rise = ap (areExponents p) exponents-back ∙ allowed-of a .exponents-rise;
       evaluations-below = ap (areEvaluations p) evaluations-back ∙ below;
       entries-increase = entries-allowed a e;
     })
 
-    -- and the rule holds of what is read
-    rule : Rule draw p public message bytes
-    rule =
+    -- and the paper's rule holds of what is read
+    valid : Rule (draw rule) p public message bytes
+    valid =
         rw (exponents-back, evaluations-back, meaning a e)
-        (verdict-true draw p exponents message vs (r .signature) .0
-        (polynomials.correctness draw (e .sound) exponents message (keyOf key) (masksOf p masks) r (size-of-key a) (signing-of a)))
+        (verdict-true (draw rule) p exponents message vs (r .signature) .0
+        (polynomials.correctness (draw rule) (e .sound) exponents message (keyOf key) (masksOf p masks) r (size-of-key a) (signing-of a)))
 
-  -- in any set, with any way to draw
-  pub correctness : {i : ℕ} → signAnswerIn draw p key exponents masks message out ≡ signing.Signed i
-      → checkAnswerIn draw p (publicKeyIn p key exponents) message (signWrittenIn draw p key exponents masks message out) ≡ verdict.Yes
+  -- in any set, with any way to draw for each rule: signed and checked under one rule
+  pub correctness : {i : ℕ} → signAnswerIn draw rule p key exponents masks message out ≡ signing.Signed i
+      → checkAnswerIn draw rule p (publicKeyIn p key exponents) message (signWrittenIn draw rule p key exponents masks message out) ≡ verdict.Yes
   correctness accepted =
-      let a = accepted-signing draw p key exponents masks message out accepted .1 in
-      verdict-yes draw p public message bytes .1 (allowed a, rule a)
+      let a = accepted-signing draw rule p key exponents masks message out accepted .1 in
+      verdict-yes draw rule p public message bytes .1 (allowed a, valid a)
 
 -- the entries, in the five sets
-module _ (key exponents : List ℕ) (masks : List ℤ) (message out : List ℕ) where
+module _ (rule : ℕ) (key exponents : List ℕ) (masks : List ℤ) (message out : List ℕ) where
   -- where the public key is given: both encodings begin with the key's set
-  pub sign-then-check : {i : ℕ} → signAnswer key exponents masks message out ≡ signing.Signed i
-      → checkAnswer (publicKeyIn (setIn key) key exponents) message (signWritten key exponents masks message out) ≡ verdict.Yes
+  pub sign-then-check : {i : ℕ} → signAnswer rule key exponents masks message out ≡ signing.Signed i
+      → checkAnswer rule (publicKeyIn (setIn key) key exponents) message (signWritten rule key exponents masks message out) ≡ verdict.Yes
   unfolding publicKeyIn publicKey signatureOf signatureBytes
   sign-then-check accepted =
       let p = setIn key in
-      let h = sign-entry key exponents masks message out accepted in
-      let is = signed-bytes (accepted-signing drawChallenge p key exponents masks message out (h .answer) .1) in
+      let h = sign-entry rule key exponents masks message out accepted in
+      let is = signed-bytes (accepted-signing drawChallenge rule p key exponents masks message out (h .answer) .1) in
       let set = h .known .set .set in
-      ap (checkAnswer (publicKeyIn p key exponents) message) (h .written ∙ is)
-      ∙ check-entry (setByte key) _ message _ (h .known .short) set
-      ∙ ap (checkAnswerIn drawChallenge p (publicKeyIn p key exponents) message) (sym is)
-      ∙ correctness (set-encodable (setByte key) (ltb-true (setByte key) 5 set)) key exponents masks message out (h .answer)
+      ap (checkAnswer rule (publicKeyIn p key exponents) message) (h .written ∙ is)
+      ∙ check-entry rule (setByte key) _ message _ (h .known .short) set
+      ∙ ap (checkAnswerIn drawChallenge rule p (publicKeyIn p key exponents) message) (sym is)
+      ∙ correctness drawChallenge rule (set-encodable rule (setByte key) (ltb-true (setByte key) 5 set)) key exponents masks message out (h .answer)
 
   -- where `public_key` wrote it
-  pub entry-correctness : {i : ℕ} (room : List ℕ) → signAnswer key exponents masks message out ≡ signing.Signed i → publicKeyRefusal key exponents room ≡ 0
-      → checkAnswer (publicKeyWritten key exponents room) message (signWritten key exponents masks message out) ≡ verdict.Yes
+  pub entry-correctness : {i : ℕ} (room : List ℕ) → signAnswer rule key exponents masks message out ≡ signing.Signed i → publicKeyRefusal key exponents room ≡ 0
+      → checkAnswer rule (publicKeyWritten key exponents room) message (signWritten rule key exponents masks message out) ≡ verdict.Yes
   unfolding publicKeyWritten
   entry-correctness room accepted allowed = rw allowed (sign-then-check accepted)

@@ -18,24 +18,24 @@ use Rattle.checking.specs.Check.{checkRefusal, checkAnswerIn, checkAnswer}
 use Rattle.passign.proofs.FirstPassing.{entry-first-signs}
 
 -- what `sign` accepts is accepted in the set of its key
-module _ (key exponents : List ℕ) (masks : List ℤ) (message out : List ℕ) where
+module _ (rule : ℕ) (key exponents : List ℕ) (masks : List ℤ) (message out : List ℕ) where
   pub record SignedInSet (i : ℕ) : Type 0 where
     pub known : Known key message
-    pub answer : signAnswerIn drawChallenge (setIn key) key exponents masks message out ≡ signing.Signed i
-    pub written : signWritten key exponents masks message out ≡ signWrittenIn drawChallenge (setIn key) key exponents masks message out
+    pub answer : signAnswerIn drawChallenge rule (setIn key) key exponents masks message out ≡ signing.Signed i
+    pub written : signWritten rule key exponents masks message out ≡ signWrittenIn drawChallenge rule (setIn key) key exponents masks message out
 
-  pub sign-entry : {i : ℕ} → signAnswer key exponents masks message out ≡ signing.Signed i → SignedInSet i
+  pub sign-entry : {i : ℕ} → signAnswer rule key exponents masks message out ≡ signing.Signed i → SignedInSet i
   sign-entry {i} accepted =
-      let k = known-iff key exponents masks message out .0 (entry-first-signs key exponents masks message out i .0 accepted .0) .0 in
+      let k = known-iff rule key exponents masks message out .0 (entry-first-signs rule key exponents masks message out i .0 accepted .0) .0 in
       record {
         known = k;
-        answer = sym (answer-entry key exponents masks message out k) ∙ accepted;
-        written = written-entry key exponents masks message out k;
+        answer = sym (answer-entry rule key exponents masks message out k) ∙ accepted;
+        written = written-entry rule key exponents masks message out k;
       }
 
 -- a check of encodings of one set
-pub check-entry : (s : ℕ) (key message signature : List ℕ) → isLong message ≡ false → isSet s ≡ true
-    → checkAnswer (s ∷ key) message (s ∷ signature) ≡ checkAnswerIn drawChallenge (setOf s) (s ∷ key) message (s ∷ signature)
+pub check-entry : (rule s : ℕ) (key message signature : List ℕ) → isLong message ≡ false → isSet s ≡ true
+    → checkAnswer rule (s ∷ key) message (s ∷ signature) ≡ checkAnswerIn drawChallenge rule (setOf s) (s ∷ key) message (s ∷ signature)
 unfolding checkAnswer checkRefusal checkAnswerIn
-check-entry s key message signature short known =
+check-entry rule s key message signature short known =
     rw (short, ne-eqb (suc (length signature)) 0 (λ e. omega arith), ne-eqb (suc (length key)) 0 (λ e. omega arith), known, eq-eqb s s refl)

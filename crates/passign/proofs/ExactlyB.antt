@@ -19,12 +19,12 @@ use Rattle.polynomial.specs.Polynomial.{coefficient, oneNorm}
 use Rattle.polynomial.specs.Sparse.{Sparse, zeros, nonzeros}
 use Rattle.polynomial.proofs.Norm.{zeros-nonzeros, one-or-minus-one, norm-nonzeros}
 use Rattle.polynomial.proofs.Bound.{within-coefficient}
-use Rattle.challenge.specs.Draw.{draw}
+use Rattle.challenge.specs.Draw.{draw, drawChallenge}
 use Rattle.challenge.proofs.Challenge.{drawn-sparse}
 use Rattle.encoding.specs.Challenge.{areEntries, challengeOf}
 use Rattle.encoding.specs.Encoding.{signatureSize, entriesRead}
 use Rattle.encoding.proofs.ReadChallenge.{read-sparse, body-sparse}
-use Rattle.scheme.specs.Scheme.{Drawer}
+use Rattle.scheme.specs.Scheme.{Drawers}
 use Rattle.refusal.specs.declared.Signing.the-variants as signing
 use Rattle.refusal.specs.Numbers.{wrongLength, wrongSet}
 use Rattle.refusal.specs.Answer.{setByte, setIn, isLong}
@@ -70,15 +70,15 @@ module _ {p : Params} {c : List ℤ} (challenge : Sparse p c) where
   at-most-n = omega (arith, zeros-nonzeros c, challenge .size, challenge .exact)
 
 -- the challenge of a signature whose check is not refused, and of one that signing makes
-pub checked : (p : Params) (key signature : List ℕ) → checkRefusalIn p key signature ≡ 0 → Sparse p (signatureRead p signature .c)
+pub checked : (rule : ℕ) (p : Params) (key signature : List ℕ) → checkRefusalIn rule p key signature ≡ 0 → Sparse p (signatureRead p signature .c)
 unfolding bodyRead entriesRead
-checked p key signature e = body-sparse p (drop 1 signature) (true-holds (check-allowed p key signature .0 e .entries-increase))
+checked rule p key signature e = body-sparse p (drop 1 signature) (true-holds (check-allowed rule p key signature .0 e .entries-increase))
 
-pub signed : {draw : Drawer} {p : Params} → Encodable draw p → (key exponents : List ℕ) (masks : List ℤ) (message out : List ℕ) {i : ℕ}
-    → signAnswerIn draw p key exponents masks message out ≡ signing.Signed i
-    → Sparse p (signatureRead p (signWrittenIn draw p key exponents masks message out) .c)
-signed {draw} {p} e key exponents masks message out accepted =
-    let a = accepted-signing draw p key exponents masks message out accepted .1 in
+pub signed : (draw : Drawers) (rule : ℕ) {p : Params} → Encodable (draw rule) p → (key exponents : List ℕ) (masks : List ℤ) (message out : List ℕ) {i : ℕ}
+    → signAnswerIn draw rule p key exponents masks message out ≡ signing.Signed i
+    → Sparse p (signatureRead p (signWrittenIn draw rule p key exponents masks message out) .c)
+signed draw rule {p} e key exponents masks message out accepted =
+    let a = accepted-signing draw rule p key exponents masks message out accepted .1 in
     rw (meaning a e) (sparse-challenge a e)
 
 -- ---- the entries, in the five sets
@@ -108,16 +108,16 @@ entry-read xs entries z e =
     rw e (body-sparse p (drop 1 xs) (true-holds (h .1 .0)))
 
 -- the challenge that `check` reads where it is not refused
-pub entry-check : (key message signature : List ℕ) → checkRefusal key message signature ≡ 0 → Sparse (setIn key) (signatureRead (setIn key) signature .c)
+pub entry-check : (rule : ℕ) (key message signature : List ℕ) → checkRefusal rule key message signature ≡ 0 → Sparse (setIn key) (signatureRead (setIn key) signature .c)
 unfolding checkRefusal
-entry-check key message signature e =
-    let rest : Params → ℕ = λ (p : Params). cond (not (eqb (setByte signature) (setByte key))) wrongSet (checkRefusalIn p key signature) in
+entry-check rule key message signature e =
+    let rest : Params → ℕ = λ (p : Params). cond (not (eqb (setByte signature) (setByte key))) wrongSet (checkRefusalIn rule p key signature) in
     let h = passed (isLong message || eqb (length signature) 0) {a = wrongLength} (λ n. omega (arith, n)) (in-a-set-iff key rest) .0 e in
-    checked (setIn key) key signature (step (eqb (setByte signature) (setByte key)) 1 Iff·rfl .0 (h .1 .1) .1)
+    checked rule (setIn key) key signature (step (eqb (setByte signature) (setByte key)) 1 Iff·rfl .0 (h .1 .1) .1)
 
 -- the challenge that `sign` writes
-pub entry-sign : (key exponents : List ℕ) (masks : List ℤ) (message out : List ℕ) {i : ℕ} → signAnswer key exponents masks message out ≡ signing.Signed i
-    → Sparse (setIn key) (signatureRead (setIn key) (signWritten key exponents masks message out) .c)
-entry-sign key exponents masks message out accepted =
-    let h = sign-entry key exponents masks message out accepted in
-    rw (h .written) (signed (set-encodable (setByte key) (ltb-true (setByte key) 5 (h .known .set .set))) key exponents masks message out (h .answer))
+pub entry-sign : (rule : ℕ) (key exponents : List ℕ) (masks : List ℤ) (message out : List ℕ) {i : ℕ} → signAnswer rule key exponents masks message out ≡ signing.Signed i
+    → Sparse (setIn key) (signatureRead (setIn key) (signWritten rule key exponents masks message out) .c)
+entry-sign rule key exponents masks message out accepted =
+    let h = sign-entry rule key exponents masks message out accepted in
+    rw (h .written) (signed drawChallenge rule (set-encodable rule (setByte key) (ltb-true (setByte key) 5 (h .known .set .set))) key exponents masks message out (h .answer))

@@ -8,7 +8,7 @@ use mathlib.Core.Logic.{_↔_, Iff·rfl, Iff·trans, Iff·and}
 use mathlib.Core.Option.{Option, none, some, Option·none-ne-some}
 use Prim.Native.Nat.{ℕ, _<_}
 use native.Mathlib.Omega.{arith}
-use lib.Dec.{T, ltb, eqb, ltb→lt, lit<}
+use lib.Dec.{eqb}
 use lib.IntN.{ℤ}
 use lib.ListN.{length, getD}
 use Rattle.algebra.specs.Integer.{within}
@@ -16,8 +16,9 @@ use Rattle.parameters.specs.declared.Params.{Params}
 use Rattle.parameters.specs.Sets.{isSet}
 use Rattle.polynomial.specs.Evaluation.{evaluations}
 use Rattle.challenge.specs.Draw.{drawChallenge}
+use Rattle.challenge.specs.Pool.{isRule}
 use Rattle.encoding.specs.Encoding.{areExponents, isKey, keyOf}
-use Rattle.scheme.specs.Scheme.{Drawer, Signed, attempt}
+use Rattle.scheme.specs.Scheme.{Drawer, Drawers, Signed, attempt}
 use Rattle.scheme.proofs.FirstPassing.{first-passing, none-passing, passed-over}
 use Rattle.refusal.specs.declared.Signing.the-variants as answer
 use Rattle.refusal.specs.Answer.{setByte, setIn, isLong}
@@ -31,21 +32,24 @@ use Rattle.passign.specs.FirstPassing.{attemptAt, NonePassing, FirstSign
 
 -- ---- no test of `sign` answers 9
 
-low : (t : Bool) (m : ℕ) {x : ℕ} → T (ltb m 9) → x < 9 → cond t m x < 9
-low true m h l = ltb→lt m 9 h
-low false m h l = l
+other : (t : Bool) (m : ℕ) {x : ℕ} → (m ≡ 9 → ⊥) → (x ≡ 9 → ⊥) → cond t m x ≡ 9 → ⊥
+other true m h l = h
+other false m h l = l
 
-refusal-low : (p : Params) (key exponents : List ℕ) (masks : List ℤ) (room : ℕ) → signRefusalIn p key exponents masks room < 9
+refusal-other : (rule : ℕ) (p : Params) (key exponents : List ℕ) (masks : List ℤ) (room : ℕ) → signRefusalIn rule p key exponents masks room ≡ 9 → ⊥
 unfolding signRefusalIn
-refusal-low p key exponents masks room =
-    low (not (signLengths p (length key) (length exponents) (length masks) room)) 1 tt
-    (low (not (areExponents p exponents)) 4 tt (low (not (isKey key)) 5 tt (low (not (within (p .k) masks)) 6 tt (lit< tt))))
+refusal-other rule p key exponents masks room =
+    other (not (signLengths p (length key) (length exponents) (length masks) room)) 1 (λ e. omega arith)
+    (other (not (isRule rule)) 18 (λ e. omega arith)
+    (other (not (areExponents p exponents)) 4 (λ e. omega arith)
+    (other (not (isKey key)) 5 (λ e. omega arith) (other (not (within (p .k) masks)) 6 (λ e. omega arith) (λ e. omega arith)))))
 
-entry-low : (key exponents : List ℕ) (masks : List ℤ) (message out : List ℕ) → signRefusal key exponents masks message out < 9
+entry-other : (rule : ℕ) (key exponents : List ℕ) (masks : List ℤ) (message out : List ℕ) → signRefusal rule key exponents masks message out ≡ 9 → ⊥
 unfolding signRefusal
-entry-low key exponents masks message out =
-    low (isLong message) 1 tt
-    (low (eqb (length key) 0) 1 tt (low (not (isSet (setByte key))) 2 tt (refusal-low (setIn key) key exponents masks (length out))))
+entry-other rule key exponents masks message out =
+    other (isLong message) 1 (λ e. omega arith)
+    (other (eqb (length key) 0) 1 (λ e. omega arith)
+    (other (not (isSet (setByte key))) 2 (λ e. omega arith) (refusal-other rule (setIn key) key exponents masks (length out))))
 
 -- the answer is 9 where there is no signing
 answer-none : (o : Option Signed) → (signedAnswer o ≡ answer.Refused 9) ↔ (o ≡ none)
@@ -113,34 +117,39 @@ module _ (draw : Drawer) (p : Params) (key exponents : List ℕ) (masks : List �
         λ h. rw (h .0) (ap signedAnswer (first-in (h .1))),
       )
 
-      none-after : refusal < 9 → (signingAfter refusal signed ≡ answer.Refused 9) ↔ ((refusal ≡ 0) × NonePassing draw p key exponents masks message)
-      none-after low =
-          Iff·trans (chosen (eqb refusal 0) (λ e. omega (arith, low, refused-same e)) (Iff·trans (answer-none signed) none-iff)) (Iff·and equal-iff Iff·rfl)
+      none-after : (refusal ≡ 9 → ⊥) → (signingAfter refusal signed ≡ answer.Refused 9) ↔ ((refusal ≡ 0) × NonePassing draw p key exponents masks message)
+      none-after other =
+          Iff·trans (chosen (eqb refusal 0) (λ e. other (refused-same e)) (Iff·trans (answer-none signed) none-iff)) (Iff·and equal-iff Iff·rfl)
 
-    -- a signing in any set, with any way to draw: it is accepted by the first mask that passes
-    pub first-signs : (i : ℕ) → (signAnswerIn draw p key exponents masks message out ≡ answer.Signed i)
-        ↔ ((signRefusalIn p key exponents masks (length out) ≡ 0)
-        × FirstSigning draw p key exponents masks message (signWrittenIn draw p key exponents masks message out) i)
-    unfolding signAnswerIn signWrittenIn
-    first-signs = first-after (signRefusalIn p key exponents masks (length out))
+-- a signing in any set, with any way to draw for each rule
+module _ (draw : Drawers) (rule : ℕ) (p : Params) (key exponents : List ℕ) (masks : List ℤ) (message out : List ℕ) where
+  abbrev refusal : ℕ
+  refusal = signRefusalIn rule p key exponents masks (length out)
 
-    -- and refused with 9 where none passes
-    pub none-signs : (signAnswerIn draw p key exponents masks message out ≡ answer.Refused 9)
-        ↔ ((signRefusalIn p key exponents masks (length out) ≡ 0) × NonePassing draw p key exponents masks message)
-    unfolding signAnswerIn
-    none-signs = none-after (signRefusalIn p key exponents masks (length out)) (refusal-low p key exponents masks (length out))
+  -- it is accepted by the first mask that passes
+  pub first-signs : (i : ℕ) → (signAnswerIn draw rule p key exponents masks message out ≡ answer.Signed i)
+      ↔ ((signRefusalIn rule p key exponents masks (length out) ≡ 0)
+      × FirstSigning (draw rule) p key exponents masks message (signWrittenIn draw rule p key exponents masks message out) i)
+  unfolding signAnswerIn signWrittenIn
+  first-signs = first-after (draw rule) p key exponents masks message out refusal
 
--- the entry, in the set of the key's first byte
-module _ (key exponents : List ℕ) (masks : List ℤ) (message out : List ℕ) where
-  pub entry-first-signs : (i : ℕ) → (signAnswer key exponents masks message out ≡ answer.Signed i)
-      ↔ ((signRefusal key exponents masks message out ≡ 0)
-      × FirstSigning drawChallenge (setIn key) key exponents masks message (signWritten key exponents masks message out) i)
+  -- and refused with 9 where none passes
+  pub none-signs : (signAnswerIn draw rule p key exponents masks message out ≡ answer.Refused 9)
+      ↔ ((signRefusalIn rule p key exponents masks (length out) ≡ 0) × NonePassing (draw rule) p key exponents masks message)
+  unfolding signAnswerIn
+  none-signs = none-after (draw rule) p key exponents masks message out refusal (refusal-other rule p key exponents masks (length out))
+
+-- the entry, in the set of the key's first byte, under its rule
+module _ (rule : ℕ) (key exponents : List ℕ) (masks : List ℤ) (message out : List ℕ) where
+  pub entry-first-signs : (i : ℕ) → (signAnswer rule key exponents masks message out ≡ answer.Signed i)
+      ↔ ((signRefusal rule key exponents masks message out ≡ 0)
+      × FirstSigning (drawChallenge rule) (setIn key) key exponents masks message (signWritten rule key exponents masks message out) i)
   unfolding signAnswer signWritten
-  entry-first-signs = first-after drawChallenge (setIn key) key exponents masks message out (signRefusal key exponents masks message out)
+  entry-first-signs = first-after (drawChallenge rule) (setIn key) key exponents masks message out (signRefusal rule key exponents masks message out)
 
-  pub entry-none-signs : (signAnswer key exponents masks message out ≡ answer.Refused 9)
-      ↔ ((signRefusal key exponents masks message out ≡ 0) × NonePassing drawChallenge (setIn key) key exponents masks message)
+  pub entry-none-signs : (signAnswer rule key exponents masks message out ≡ answer.Refused 9)
+      ↔ ((signRefusal rule key exponents masks message out ≡ 0) × NonePassing (drawChallenge rule) (setIn key) key exponents masks message)
   unfolding signAnswer
   entry-none-signs =
-      none-after drawChallenge (setIn key) key exponents masks message out (signRefusal key exponents masks message out)
-      (entry-low key exponents masks message out)
+      none-after (drawChallenge rule) (setIn key) key exponents masks message out (signRefusal rule key exponents masks message out)
+      (entry-other rule key exponents masks message out)

@@ -1,5 +1,6 @@
 -- Hiding: whatever a library accepts, every other ternary key of the set with the same evaluations at the points would have signed alike, by exactly one
--- mask within k: the signature's z minus the product of that key and the signature's challenge. And the check says yes under that key too.
+-- mask within k: the signature's z minus the product of that key and the signature's challenge. And the check says yes under that key too. Both keys
+-- sign, and the check judges, under the rule of that signing.
 -- Assumes nothing.
 use mathlib.Core.Path.{_≡_, refl, ap₂, _∙_}
 use mathlib.Core.List.{List}
@@ -9,7 +10,7 @@ use lib.IntN.{ℤ}
 use Rattle.parameters.specs.declared.Params.{Params}
 use Rattle.polynomial.proofs.SignedForm.{same-residues}
 use Rattle.encoding.specs.Encoding.{keyOf, publicKey}
-use Rattle.scheme.specs.Scheme.{Drawer}
+use Rattle.scheme.specs.Scheme.{Drawers}
 use Rattle.values.specs.Keys.{publicKeyIn}
 use Rattle.passign.specs.Hiding.{Encodable, Library, anyLibrary, ourLibrary, SigningRecord, paramsOf, Accepted}
 use Rattle.passign.specs.Hiding.{OtherKey, Same, CheckedYes, maskFor, ExactlyOne}
@@ -24,12 +25,12 @@ exactly-one a h = record { it = a; does = h a .1 refl; only = λ x. h x .0 }
 pub checked-yes : {l : Library} {m : SigningRecord} → AsDefined l m → (other : List ℕ) → OtherKey l m other → CheckedYes l m other
 unfolding publicKeyIn
 checked-yes {l} {m} f other o = record {
-  answer = ap₂ (λ (s : ℕ) (vs : List ℕ). l .checks (publicKey s (m .call .exponents) vs) (m .call .message) (m .bytes)) (o .set)
+  answer = ap₂ (λ (s : ℕ) (vs : List ℕ). l .checks (m .call .rule) (publicKey s (m .call .exponents) vs) (m .call .message) (m .bytes)) (o .set)
       (same-residues (f .encodable .sound) (keyOf other) (keyOf (m .call .key)) (m .call .exponents) (o .same)) ∙ f .checks;
 }
 
--- any numbering of sets, with any way to draw
-module _ (set : ℕ → Params) (draw : Drawer) (m : SigningRecord) (e : Encodable draw (paramsOf (anyLibrary set draw) m))
+-- any numbering of sets, with any way to draw for each rule
+module _ (set : ℕ → Params) (draw : Drawers) (m : SigningRecord) (e : Encodable (draw (m .call .rule)) (paramsOf (anyLibrary set draw) m))
     (accepted : Accepted (anyLibrary set draw) m) (other : List ℕ) (o : OtherKey (anyLibrary set draw) m other) where
   -- a mask does what the signing did exactly when it is z - other ⋆ c
   pub hiding-exactly : (y : List ℤ) → Same (anyLibrary set draw) m other y ↔ (y ≡ maskFor (anyLibrary set draw) m other)

@@ -8,7 +8,7 @@ use mathlib.Core.Logic.{_↔_}
 use Prim.Native.Nat.{ℕ}
 use lib.IntN.{ℤ}
 use Rattle.parameters.specs.declared.Params.{Params}
-use Rattle.scheme.specs.Scheme.{Drawer}
+use Rattle.scheme.specs.Scheme.{Drawers}
 use Rattle.passign.specs.Hiding.{Encodable, Library, anyLibrary, ourLibrary, SigningRecord, paramsOf, Accepted, Same, maskFor}
 use Rattle.passign.specs.Hiding.{Every, Each₃, Hidden}
 use Rattle.passign.proofs.AsDefined.{AsDefined, any-as-defined, ours-as-defined}
@@ -54,9 +54,9 @@ hidden l ms f others o =
     let exactly = each-exactly (Same l) (maskFor l) (each-map (λ m f. same-iff f) o f) in
     record { one = exactly-one (zipWith (maskFor l) ms others) exactly; exactly = exactly; yes = each-map (λ m f. checked-yes f) o f }
 
--- any numbering of sets, with any way to draw
-pub hiding-of-many : (set : ℕ → Params) (draw : Drawer) (ms : List SigningRecord)
-    → Every (λ (m : SigningRecord). Encodable draw (paramsOf (anyLibrary set draw) m) × Accepted (anyLibrary set draw) m) ms
+-- any numbering of sets, with any way to draw for each rule
+pub hiding-of-many : (set : ℕ → Params) (draw : Drawers) (ms : List SigningRecord)
+    → Every (λ (m : SigningRecord). Encodable (draw (m .call .rule)) (paramsOf (anyLibrary set draw) m) × Accepted (anyLibrary set draw) m) ms
     → Hidden (anyLibrary set draw) ms
 hiding-of-many set draw ms accepted = hidden (anyLibrary set draw) ms (every-map (λ m a. any-as-defined m (a .0) (a .1)) ms accepted)
 

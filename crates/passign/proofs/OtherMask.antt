@@ -26,7 +26,7 @@ use Rattle.signing.specs.Signer.{offeredCount, masksOf, signatureOf, signedBy}
 use Rattle.signing.proofs.OfferedMasks.{masks-count, mask-at, mask-size}
 use Rattle.signing.specs.Sign.{areMasks}
 use Rattle.checking.specs.Check.{signatureRead}
-use Rattle.passign.specs.Hiding.{Library, SigningRecord, paramsOf, signatureIn, OtherKey, Same, maskFor}
+use Rattle.passign.specs.Hiding.{Library, SigningRecord, paramsOf, drawerOf, signatureIn, OtherKey, Same, maskFor}
 use Rattle.signing.proofs.Allowed.{sign-allowed}
 use Rattle.signing.proofs.Masks.{mask-alone}
 use Rattle.encoding.proofs.EncodedKey.{key-size, key-ternary}
@@ -50,9 +50,13 @@ module _ {l : Library} {m : SigningRecord} (f : AsDefined l m) where
   p = paramsOf l m
 
   abbrev draw : Drawer
-  draw = l .draw
+  draw = drawerOf l m
 
-  module _ {r : Signed} (a : SignedAs draw p (m .call .key) exponents (m .call .masks) message (m .call .out) r (m .mask)) where
+  -- a signing under the rule
+  abbrev Signing : List ℕ → List ℤ → Signed → ℕ → Type 0
+  Signing key masks = SignedAs (l .draw) (m .call .rule) p key exponents masks message (m .call .out)
+
+  module _ {r : Signed} (a : Signing (m .call .key) (m .call .masks) r (m .mask)) where
     meant : signatureIn l m ≡ r .signature
     meant = ap (signatureRead p) (f .bytes) ∙ meaning a (f .encodable)
 
@@ -67,16 +71,16 @@ module _ {l : Library} {m : SigningRecord} (f : AsDefined l m) where
           ap (signing draw p exponents message 0 (keyOf other)) (mask-alone p y (omega (arith, f .encodable .fitting .exponents)) size)
 
       module _ (g : Alike) where
-        signed-alone : SignedAs draw p other exponents y message (m .call .out)
-            (record { passedOver = 0; commitment = r .commitment; signature = r .signature }) 0
+        signed-alone : Signing other y (record { passedOver = 0; commitment = r .commitment; signature = r .signature }) 0
         signed-alone =
             let k = allowed-of a in
             record {
-              allowed = sign-allowed p other exponents y (length (m .call .out)) .1 (record {
+              allowed = sign-allowed (m .call .rule) p other exponents y (length (m .call .out)) .1 (record {
                 key-size = o .size;
                 exponents-size = k .exponents-size;
                 masks-size = one-mask p y (g .size);
                 room-size = k .room-size;
+                rule-known = k .rule-known;
                 exponents-rise = k .exponents-rise;
                 ternary = o .ternary;
                 small = holds-true (within (p .k) y) (g .small);
@@ -102,7 +106,7 @@ module _ {l : Library} {m : SigningRecord} (f : AsDefined l m) where
             }
 
       -- the bytes decide the signature, since they are read back
-      alike-of-same : Same l m other y → {t : Signed} → SignedAs draw p other exponents y message (m .call .out) t 0 → Alike
+      alike-of-same : Same l m other y → {t : Signed} → Signing other y t 0 → Alike
       alike-of-same s {t} v =
           let signs = sym (alone (s .size)) ∙ v .signs in
           let signature : t .signature ≡ r .signature =
@@ -127,6 +131,6 @@ module _ {l : Library} {m : SigningRecord} (f : AsDefined l m) where
   -- so it does exactly when it is z - other ⋆ c
   pub same-iff : (other : List ℕ) → OtherKey l m other → (y : List ℤ) → Same l m other y ↔ (y ≡ maskFor l m other)
   same-iff other o y =
-      let a = accepted-signing draw p (m .call .key) exponents (m .call .masks) message (m .call .out) (f .accepted) .1 in
-      let with-other = accepted-signing draw p other exponents y message (m .call .out) in
+      let a = accepted-signing (l .draw) (m .call .rule) p (m .call .key) exponents (m .call .masks) message (m .call .out) (f .accepted) .1 in
+      let with-other = accepted-signing (l .draw) (m .call .rule) p other exponents y message (m .call .out) in
       Iff·trans (λ s. alike-of-same a other o y s (with-other (sym (f .signs other o y) ∙ s .answer) .1), same-of-alike a other o y) (alike-iff a other o y)

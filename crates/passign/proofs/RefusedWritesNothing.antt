@@ -49,9 +49,9 @@ refused-writes-nothing =
       evaluate-all = λ s f out. left (evaluateAllRefusal s f out) _;
       draw = λ s pool out. left (drawRefusal s pool out) _;
       public-key = λ key exponents out. left (publicKeyRefusal key exponents out) _;
-      sign = λ key exponents masks message out.
-          let number = signRefusal key exponents masks message out in
-          signing-left (eqb number 0) number (setByte key) (signedBy drawChallenge (setIn key) (keyOf key) exponents masks message) out;
+      sign = λ rule key exponents masks message out.
+          let number = signRefusal rule key exponents masks message out in
+          signing-left (eqb number 0) number (setByte key) (signedBy (drawChallenge rule) (setIn key) (keyOf key) exponents masks message) out;
       read-secret-key = λ xs out. left (readSecretKeyRefusal xs (length out)) _;
       write-secret-key = λ s f out. left (writeSecretKeyRefusal s f (length out)) _;
       read-public-key = λ xs exponents vs. let number = readPublicKeyRefusal xs (length exponents) (length vs) in (left number _, left number _);

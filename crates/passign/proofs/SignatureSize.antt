@@ -26,10 +26,10 @@ unfolding setOf sets
 sizes-of-signatures = refl
 
 -- the entry, in the set of the key's first byte
-pub entry-signature-size : (key exponents : List ℕ) (masks : List ℤ) (message out : List ℕ) {i : ℕ}
-    → signAnswer key exponents masks message out ≡ signing.Signed i
-    → length (signWritten key exponents masks message out) ≡ signatureSize (setIn key)
-entry-signature-size key exponents masks message out accepted =
-    let h = sign-entry key exponents masks message out accepted in
-    let a = accepted-signing drawChallenge (setIn key) key exponents masks message out (h .answer) .1 in
-    ap length (h .written) ∙ bytes-size a (set-encodable (setByte key) (ltb-true (setByte key) 5 (h .known .set .set)))
+pub entry-signature-size : (rule : ℕ) (key exponents : List ℕ) (masks : List ℤ) (message out : List ℕ) {i : ℕ}
+    → signAnswer rule key exponents masks message out ≡ signing.Signed i
+    → length (signWritten rule key exponents masks message out) ≡ signatureSize (setIn key)
+entry-signature-size rule key exponents masks message out accepted =
+    let h = sign-entry rule key exponents masks message out accepted in
+    let a = accepted-signing drawChallenge rule (setIn key) key exponents masks message out (h .answer) .1 in
+    ap length (h .written) ∙ bytes-size a (set-encodable rule (setByte key) (ltb-true (setByte key) 5 (h .known .set .set)))

@@ -9,7 +9,7 @@ use lib.Dec.{eqb}
 use Rattle.parameters.specs.declared.Params.{Params}
 use Rattle.challenge.specs.Draw.{drawChallenge}
 use Rattle.encoding.specs.Encoding.{exponentsOf, evaluationsOf}
-use Rattle.scheme.specs.Scheme.{Drawer}
+use Rattle.scheme.specs.Scheme.{Drawer, Drawers}
 use Rattle.scheme.proofs.Verdict.{verdict-true, verdict-false}
 use Rattle.refusal.specs.declared.Verdict.the-variants as answer
 use Rattle.refusal.specs.Answer.{setIn}
@@ -35,24 +35,26 @@ module _ (draw : Drawer) (p : Params) (key message signature : List ℕ) where
         Iff·trans (chosen (eqb refusal 0) refused-not-no (passed (checkVerdict draw p key message signature) yes-not-no end))
         (Iff·and equal-iff (λ h. rule .0 (h .0), λ v. (rule .1 v, tt)))
 
-  -- in any set, with any way to draw
-  pub verdict-yes : (checkAnswerIn draw p key message signature ≡ answer.Yes) ↔ ((checkRefusalIn p key signature ≡ 0) × Rule draw p key message signature)
+-- in any set, with any way to draw for each rule
+module _ (draw : Drawers) (rule : ℕ) (p : Params) (key message signature : List ℕ) where
+  pub verdict-yes : (checkAnswerIn draw rule p key message signature ≡ answer.Yes)
+      ↔ ((checkRefusalIn rule p key signature ≡ 0) × Rule (draw rule) p key message signature)
   unfolding checkAnswerIn
-  verdict-yes = yes-after (checkRefusalIn p key signature)
+  verdict-yes = yes-after (draw rule) p key message signature (checkRefusalIn rule p key signature)
 
-  pub verdict-no : (checkAnswerIn draw p key message signature ≡ answer.No)
-      ↔ ((checkRefusalIn p key signature ≡ 0) × (¬ Rule draw p key message signature))
+  pub verdict-no : (checkAnswerIn draw rule p key message signature ≡ answer.No)
+      ↔ ((checkRefusalIn rule p key signature ≡ 0) × (¬ Rule (draw rule) p key message signature))
   unfolding checkAnswerIn
-  verdict-no = no-after (checkRefusalIn p key signature)
+  verdict-no = no-after (draw rule) p key message signature (checkRefusalIn rule p key signature)
 
--- the entry, in the set of the key's first byte
-module _ (key message signature : List ℕ) where
-  pub entry-verdict-yes : (checkAnswer key message signature ≡ answer.Yes)
-      ↔ ((checkRefusal key message signature ≡ 0) × Rule drawChallenge (setIn key) key message signature)
+-- the entry, in the set of the key's first byte, under the rule that it is given, whichever the signature was made under
+module _ (rule : ℕ) (key message signature : List ℕ) where
+  pub entry-verdict-yes : (checkAnswer rule key message signature ≡ answer.Yes)
+      ↔ ((checkRefusal rule key message signature ≡ 0) × Rule (drawChallenge rule) (setIn key) key message signature)
   unfolding checkAnswer
-  entry-verdict-yes = yes-after drawChallenge (setIn key) key message signature (checkRefusal key message signature)
+  entry-verdict-yes = yes-after (drawChallenge rule) (setIn key) key message signature (checkRefusal rule key message signature)
 
-  pub entry-verdict-no : (checkAnswer key message signature ≡ answer.No)
-      ↔ ((checkRefusal key message signature ≡ 0) × (¬ Rule drawChallenge (setIn key) key message signature))
+  pub entry-verdict-no : (checkAnswer rule key message signature ≡ answer.No)
+      ↔ ((checkRefusal rule key message signature ≡ 0) × (¬ Rule (drawChallenge rule) (setIn key) key message signature))
   unfolding checkAnswer
-  entry-verdict-no = no-after drawChallenge (setIn key) key message signature (checkRefusal key message signature)
+  entry-verdict-no = no-after (drawChallenge rule) (setIn key) key message signature (checkRefusal rule key message signature)

@@ -1,6 +1,6 @@
 -- Demand 3 (document 01, "Hiding, word by word"): another key, what it is for a mask to do what a signing did, and what it is for a list of signings to be
 -- hidden. It is said once, of any library of the scheme: of the entries `sign` and `check`, and of the same definitions with any numbering of parameter sets
--- and any way to draw.
+-- and any way to draw for each rule of hashing.
 -- Assumes nothing.
 use mathlib.Core.Path.{_≡_}
 use mathlib.Core.Bool.{true}
@@ -19,7 +19,7 @@ use Rattle.polynomial.specs.Polynomial.{sub, star}
 use Rattle.polynomial.specs.Evaluation.{evaluations, evaluationResidues}
 use Rattle.challenge.specs.Draw.{drawChallenge}
 use Rattle.encoding.specs.Encoding.{secretKeySize, isKey, keyOf}
-use Rattle.scheme.specs.Scheme.{Drawer, SparseDrawer, Signature}
+use Rattle.scheme.specs.Scheme.{Drawer, Drawers, SparseDrawer, Signature}
 use Rattle.signing.specs.Signer.{maskAt}
 use Rattle.refusal.specs.declared.Signing.{Signing}
 use Rattle.refusal.specs.declared.Signing.the-variants as signing
@@ -39,43 +39,45 @@ pub record Encodable (draw : Drawer) (p : Params) : Type 0 where
 
 -- ---- a library of the scheme
 
--- a call of its signing: encoded key, points, masks, message, and the buffer lent
+-- a call of its signing: the rule of hashing, encoded key, points, masks, message, and the buffer lent
 pub record Call : Type 0 where
+  pub rule : ℕ
   pub key : List ℕ
   pub exponents : List ℕ
   pub masks : List ℤ
   pub message : List ℕ
   pub out : List ℕ
 
--- the call with another key, and the mask y offered alone
+-- the call with another key, and the mask y offered alone: both keys sign under one rule
 abbrev pub offeredAlone : Call → List ℕ → List ℤ → Call
-offeredAlone call other y = record { key = other; exponents = call .exponents; masks = y; message = call .message; out = call .out }
+offeredAlone call other y =
+    record { rule = call .rule; key = other; exponents = call .exponents; masks = y; message = call .message; out = call .out }
 
--- the parameter set of each set byte, the way to draw, what signing answers and what the buffer lent holds after it, and what the check answers to a
--- public key, a message and a signature
+-- the parameter set of each set byte, the way to draw of each rule, what signing answers and what the buffer lent holds after it, and what the check
+-- answers under a rule to a public key, a message and a signature
 pub record Library : Type 0 where
   pub set : ℕ → Params
-  pub draw : Drawer
+  pub draw : Drawers
   pub signs : Call → Signing
   pub writes : Call → List ℕ
-  pub checks : List ℕ → List ℕ → List ℕ → Verdict
+  pub checks : ℕ → List ℕ → List ℕ → List ℕ → Verdict
 
 -- signing in one parameter set
-abbrev pub signsIn : Drawer → Params → Call → Signing
-signsIn draw p call = signAnswerIn draw p (call .key) (call .exponents) (call .masks) (call .message) (call .out)
+abbrev pub signsIn : Drawers → Params → Call → Signing
+signsIn draw p call = signAnswerIn draw (call .rule) p (call .key) (call .exponents) (call .masks) (call .message) (call .out)
 
-abbrev pub writesIn : Drawer → Params → Call → List ℕ
-writesIn draw p call = signWrittenIn draw p (call .key) (call .exponents) (call .masks) (call .message) (call .out)
+abbrev pub writesIn : Drawers → Params → Call → List ℕ
+writesIn draw p call = signWrittenIn draw (call .rule) p (call .key) (call .exponents) (call .masks) (call .message) (call .out)
 
--- any numbering of sets and any way to draw
-abbrev pub anyLibrary : (ℕ → Params) → Drawer → Library
+-- any numbering of sets and any way to draw for each rule
+abbrev pub anyLibrary : (ℕ → Params) → Drawers → Library
 anyLibrary set draw =
     record {
       set = set;
       draw = draw;
       signs = λ (call : Call). signsIn draw (set (setByte (call .key))) call;
       writes = λ (call : Call). writesIn draw (set (setByte (call .key))) call;
-      checks = λ (key message signature : List ℕ). checkAnswerIn draw (set (setByte key)) key message signature;
+      checks = λ (rule : ℕ) (key message signature : List ℕ). checkAnswerIn draw rule (set (setByte key)) key message signature;
     }
 
 -- our library: the entries `sign` and `check`
@@ -84,8 +86,8 @@ ourLibrary =
     record {
       set = setOf;
       draw = drawChallenge;
-      signs = λ (call : Call). signAnswer (call .key) (call .exponents) (call .masks) (call .message) (call .out);
-      writes = λ (call : Call). signWritten (call .key) (call .exponents) (call .masks) (call .message) (call .out);
+      signs = λ (call : Call). signAnswer (call .rule) (call .key) (call .exponents) (call .masks) (call .message) (call .out);
+      writes = λ (call : Call). signWritten (call .rule) (call .key) (call .exponents) (call .masks) (call .message) (call .out);
       checks = checkAnswer;
     }
 
@@ -101,6 +103,10 @@ module _ (l : Library) (m : SigningRecord) where
   -- the set of its key's first byte
   abbrev pub paramsOf : Params
   paramsOf = l .set (setByte (m .call .key))
+
+  -- the way to draw of its rule
+  abbrev pub drawerOf : Drawer
+  drawerOf = l .draw (m .call .rule)
 
   -- the library accepts it: it answers with the number of the mask and not with a refusal, and it writes the bytes
   pub record Accepted : Type 0 where
@@ -131,13 +137,14 @@ module _ (l : Library) (m : SigningRecord) where
     pub size : length y ≡ paramsOf .n
     pub small : T (within (paramsOf .k) y)
     pub commitment : evaluations paramsOf y (m .call .exponents) ≡ commitmentOf
-    pub challenge : l .draw paramsOf (evaluationResidues paramsOf y (m .call .exponents)) (m .call .message) ≡ some (signatureIn .c)
+    pub challenge : drawerOf paramsOf (evaluationResidues paramsOf y (m .call .exponents)) (m .call .message) ≡ some (signatureIn .c)
     pub answer : l .signs (offeredAlone (m .call) other y) ≡ signing.Signed 0
     pub bytes : l .writes (offeredAlone (m .call) other y) ≡ m .bytes
 
-  -- the check, given the signature, the shared public evaluations in the other key's public key, and the same points and message, says yes
+  -- the check under the signing's rule, given the signature, the shared public evaluations in the other key's public key, and the same points and message,
+  -- says yes
   pub record CheckedYes (other : List ℕ) : Type 0 where
-    pub answer : l .checks (publicKeyIn paramsOf other (m .call .exponents)) (m .call .message) (m .bytes) ≡ verdict.Yes
+    pub answer : l .checks (m .call .rule) (publicKeyIn paramsOf other (m .call .exponents)) (m .call .message) (m .bytes) ≡ verdict.Yes
 
   -- the mask that does it: the signature's z minus the product ⋆ of the other key and the signature's challenge
   abbrev pub maskFor : List ℕ → List ℤ

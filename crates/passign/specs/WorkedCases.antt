@@ -1,5 +1,5 @@
--- The worked cases of document 01, in set 0 but for a size in set 4, evaluations at both ends of the signed form, where the test of a range ends, and what a
--- challenge has: rows of one table, and the test of a row by the definitions that the entries' contracts cite.
+-- The worked cases of document 01, in set 0 but for a size in set 4, evaluations at both ends of the signed form, where the test of a range ends, what a
+-- challenge has, and what each rule hashes, in set 1: rows of one table, and the test of a row by the definitions that the entries' contracts cite.
 -- Assumes nothing.
 use mathlib.Core.Bool.{Bool, true, false, _&&_, not, cond}
 use mathlib.Core.List.{List, [], _∷_, _++_, map}
@@ -7,6 +7,7 @@ use Prim.Native.Nat.{ℕ, zero, suc, _-_}
 use lib.Dec.{eqb}
 use lib.IntN.{ℤ, pos, negsuc}
 use lib.ListN.{length, replicate}
+use Rattle.algebra.specs.All.{areBelow}
 use Rattle.algebra.specs.Integer.{within}
 use Rattle.parameters.specs.Sets.{setOf}
 use Rattle.polynomial.specs.Polynomial.{star, zOf, oneNorm}
@@ -18,6 +19,7 @@ use Rattle.transform.specs.AllExponents.{allExponents}
 use Rattle.transform.specs.Generator.{generatorOf}
 use Rattle.transform.specs.Convolution.{convolution}
 use Rattle.transform.specs.Reordering.{reorderedCoefficients, reorderedPowers, reorderedSum}
+use Rattle.challenge.specs.Pool.{lowByteRule, threeByteRule, commitmentBytes}
 use Rattle.challenge.specs.Draw.{draw, kept, valueCount}
 use Rattle.encoding.specs.Challenge.{areEntries}
 use Rattle.encoding.specs.Encoding.{signatureSize}
@@ -51,6 +53,10 @@ pub data Case : Type 0 where
   accepts : List ℕ → Bool → Case
   -- challenge and point are encoded as these bytes
   encodes : List ℤ → List ℤ → List ℕ → Case
+  -- evaluations of set 1 have these commitment bytes under rule 1, and these under rule 2
+  hashes : List ℕ → List ℕ → List ℕ → Case
+  -- two commitments of set 1 have equal bytes under rule 1 and other bytes under rule 2
+  collides : List ℕ → List ℕ → Case
   -- a signature of this set has so many bytes
   measures : ℕ → ℕ → Case
 
@@ -95,6 +101,10 @@ sharedChallenge = poly (pos 0) (pos 0) (pos 1) (pos 1) (pos 0)
 abbrev pub sharedPoint : List ℤ
 sharedPoint = poly (pos 4) (minus 1) (minus 4) (minus 1) (minus 3)
 
+-- 200 evaluations of set 1, with e among them
+abbrev pub commitmentWith : ℕ → List ℕ
+commitmentWith e = replicate 99 0 ++ (e ∷ replicate 100 775936)
+
 unfoldable pub cases : List Case
 cases =
     draws (padded (0x02 ∷ replicate 7 0 ++ (0x00 ∷ 0x07 ∷ 0x00 ∷ 0x0C ∷ 0xFF ∷ 0xFF ∷ 0x00 ∷ 0x03 ∷ []))) challenge
@@ -137,6 +147,10 @@ cases =
     ∷ accepts (0x0002 ∷ 0x0005 ∷ []) false
     ∷ encodes challenge (poly (pos 4) (pos 3) (minus 4) (pos 0) (pos 1))
     (0x00 ∷ 0x00 ∷ 0x02 ∷ 0x80 ∷ 0x03 ∷ 0x00 ∷ 0x04 ∷ 0x00 ∷ 0x03 ∷ 0xFF ∷ 0xFC ∷ 0x00 ∷ 0x00 ∷ 0x00 ∷ 0x01 ∷ [])
+    -- 775936 is hex 0BD700, and 258 is hex 000102
+    ∷ hashes (775936 ∷ 258 ∷ []) (0x00 ∷ 0x02 ∷ []) (0x00 ∷ 0xD7 ∷ 0x0B ∷ 0x02 ∷ 0x01 ∷ 0x00 ∷ [])
+    -- they differ by 256 in one evaluation
+    ∷ collides (commitmentWith 1000) (commitmentWith 1256)
     ∷ measures 0 15
     ∷ measures 4 2379
     ∷ []
@@ -146,6 +160,10 @@ sameNumbers xs ys = equal (map pos xs) (map pos ys)
 
 abbrev pub sameBool : Bool → Bool → Bool
 sameBool a b = cond a b (not b)
+
+-- t numbers in 0..q-1 of set 1
+abbrev pub isCommitment : List ℕ → Bool
+isCommitment w = eqb (length w) (setOf 1 .t) && areBelow (setOf 1 .q) w
 
 -- the test of a row
 unfoldable pub holds : Case → Bool
@@ -163,4 +181,9 @@ holds (leaves z i) = eqb (firstOutside (setOf 0 .k - setOf 0 .b) z) i
 holds (counts c some none norm) = eqb (nonzeros c) some && (eqb (zeros c) none && eqb (oneNorm c) norm)
 holds (accepts es ok) = sameBool (areEntries (setOf 0 .n) es) ok
 holds (encodes c z xs) = sameNumbers (signatureOf 0 (record { c = c; z = z })) xs
+holds (hashes w low three) =
+    areBelow (setOf 1 .q) w && (sameNumbers (commitmentBytes lowByteRule w) low && sameNumbers (commitmentBytes threeByteRule w) three)
+holds (collides v w) =
+    isCommitment v && (isCommitment w && (sameNumbers (commitmentBytes lowByteRule v) (commitmentBytes lowByteRule w)
+    && not (sameNumbers (commitmentBytes threeByteRule v) (commitmentBytes threeByteRule w))))
 holds (measures s size) = eqb (signatureSize (setOf s)) size

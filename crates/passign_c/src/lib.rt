@@ -24,10 +24,15 @@ fn number(a: Answer) -> u32
 
 // 0 for no, 256 for yes, else the refusal number.
 #[no_mangle]
-pub extern "C" fn passign_check(public_key: &[u8], message: &[u8], signature: &[u8]) -> u32
-    ensures { λ r. ⌜ r ≡ verdictNumber (checkAnswer (now («public_key» .entry)) (now (message .entry)) (now (signature .entry))) ⌝ }
+pub extern "C" fn passign_check(
+    public_key: &[u8],
+    message: &[u8],
+    signature: &[u8],
+    rule: u8,
+) -> u32
+    ensures { λ r. ⌜ r ≡ verdictNumber (checkAnswer rule (now («public_key» .entry)) (now (message .entry)) (now (signature .entry))) ⌝ }
 {
-    let v = passign::check(public_key, message, signature);
+    let v = passign::check(public_key, message, signature, rule);
     match v {
         Verdict::Yes => 256,
         Verdict::No => 0,
@@ -43,13 +48,14 @@ pub extern "C" fn passign_sign(
     masks: &[i16],
     message: &[u8],
     signature: &mut [u8],
+    rule: u8,
 ) -> u32
-    ensures answer { λ r. ⌜ r ≡ signingNumber (signAnswer (now («secret_key» .entry)) (now (points .entry)) (now (masks .entry))
+    ensures answer { λ r. ⌜ r ≡ signingNumber (signAnswer rule (now («secret_key» .entry)) (now (points .entry)) (now (masks .entry))
         (now (message .entry)) (now (signature .entry))) ⌝ }
-    ensures written { λ r. ⌜ now (signature .exit) ≡ signWritten (now («secret_key» .entry)) (now (points .entry)) (now (masks .entry))
+    ensures written { λ r. ⌜ now (signature .exit) ≡ signWritten rule (now («secret_key» .entry)) (now (points .entry)) (now (masks .entry))
         (now (message .entry)) (now (signature .entry)) ⌝ }
 {
-    let s = passign::sign(secret_key, points, masks, message, signature);
+    let s = passign::sign(secret_key, points, masks, message, signature, rule);
     match s {
         Signing::Signed(passed) => 256 + passed as u32,
         Signing::Refused(n) => n,

@@ -69,3 +69,7 @@ bytesAfterEnd = 16
 -- the held key has no signature left
 abbrev pub noneLeft : ℕ
 noneLeft = 17
+
+-- rule of hashing not 1 or 2
+abbrev pub wrongRule : ℕ
+wrongRule = 18

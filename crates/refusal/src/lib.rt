@@ -40,6 +40,8 @@ pub const BYTES_AFTER_END: u32 = 16;
 
 pub const NONE_LEFT: u32 = 17;
 
+pub const WRONG_RULE: u32 = 18;
+
 // One test of a chain of refusals: the number where it fails, else what the tests after it give.
 pub fn unless(holds: bool, number: u32, rest: u32) -> u32
     ensures { λ r. ⌜ r ≡ cond (not holds) number rest ⌝ }

@@ -18,6 +18,10 @@ use Rattle.polynomial.specs.Evaluation.{evaluations, evaluationResidues}
 abbrev pub Drawer : Type 0
 Drawer = Params → List ℕ → List ℕ → Option (List ℤ)
 
+-- a way to draw for each rule of hashing
+abbrev pub Drawers : Type 0
+Drawers = ℕ → Drawer
+
 -- what theorems ask of it: a way to draw whose challenges are sparse
 abbrev pub SparseDrawer : Drawer → Params → Type 0
 SparseDrawer draw p = (w m : List ℕ) (c : List ℤ) → draw p w m ≡ some c → Sparse p c

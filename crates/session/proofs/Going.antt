@@ -22,6 +22,7 @@ moved f next ordinal =
       ended = false;
       place = next;
       rows = ordinal;
+      rule = f .rule;
       set = f .set;
       exponents = f .exponents;
       key = f .key;

@@ -10,6 +10,7 @@ pub mod VerdictsOfPlays
 pub mod PrintedEvaluationsOfPlays
 pub mod HidingOfPlays
 pub mod KeyLifeOfPlays
+pub mod RuleOfPlays
 pub mod EndOfPlays
 pub mod OrdinalsOfPlays
 pub mod RefusalsOfPlays

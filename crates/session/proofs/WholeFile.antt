@@ -1,6 +1,7 @@
 -- What holds of a file that `play_file`, or the program `play`, has played: its contract alone (`PlayedWhole`) gives the turns, and with them all that is
 -- proved of the code's plays. The commands played are the file, up to a last row; each accepted 03 prints the key's evaluations in signed form, each accepted
--- 06 signs with the first mask that passes, and each accepted 07 prints the paper's verdict; every accepted signature hides its key; each key has its life.
+-- 06 signs with the first mask that passes, and each accepted 07 prints the paper's verdict; every accepted signature hides its key; each key has its life;
+-- and the rule in force at each command is that of the last accepted 0B before it.
 -- Assumes nothing.
 use mathlib.Core.List.{List}
 use Prim.Native.Nat.{ℕ}
@@ -12,6 +13,7 @@ use Rattle.session_rules.specs.Verdicts.{EachVerdict}
 use Rattle.session_rules.specs.PrintedEvaluations.{EachEvaluations}
 use Rattle.session_rules.specs.KeysHidden.{KeysHidden}
 use Rattle.session_rules.specs.KeyLife.{KeyLife}
+use Rattle.session_rules.specs.RuleInForce.{RuleInForce}
 use Rattle.session.specs.declared.Session as code
 use Rattle.session.specs.Session.{sessionOf}
 use Rattle.session.specs.Turns.{turnEvents}
@@ -22,6 +24,7 @@ use Rattle.session.proofs.VerdictsOfPlays.{verdicts-by-the-rule-in-play
 use Rattle.session.proofs.PrintedEvaluationsOfPlays.{evaluations-printed-in-plays}
 use Rattle.session.proofs.HidingOfPlays.{hiding-of-plays}
 use Rattle.session.proofs.KeyLifeOfPlays.{key-life-in-plays}
+use Rattle.session.proofs.RuleOfPlays.{rule-in-force-in-plays}
 
 module _ (file : List ℕ) (s : code.Session) (w : PlayedWhole file s) where
   -- the commands that were played
@@ -47,3 +50,6 @@ module _ (file : List ℕ) (s : code.Session) (w : PlayedWhole file s) where
 
   pub whole-file-key-life : KeyLife wholeEvents (sessionOf s .held)
   whole-file-key-life = let p = w .played in rw (p .last) at (key-life-in-plays (p .first) (p .opens) file (p .turns) (p .allowed))
+
+  pub whole-file-rule : RuleInForce wholeEvents (sessionOf s .held)
+  whole-file-rule = let p = w .played in rw (p .last) at (rule-in-force-in-plays (p .first) (p .opens) file (p .turns) (p .allowed))

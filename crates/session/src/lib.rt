@@ -14,6 +14,7 @@ ghost use Rattle.session.specs.Session.{sessionOf, playAnswerOf, playNum
 ghost use Rattle.session.specs.WholeFile.{PlayedWhole};
 ghost use Rattle.session.specs.ByRules.{ByPlay, ByEnd, ByStep};
 use crate::rows::write_row;
+use challenge::RULE_LOW_BYTE;
 use parameters::MAX_FILE;
 use parameters::MAX_N;
 use parameters::MAX_T;
@@ -60,7 +61,7 @@ pub struct Played {
     pub answer: PlayAnswer,
 }
 
-// A session just opened. 255 is no set.
+// A session just opened, under rule 1. 255 is no set.
 pub fn open() -> Session
     ensures { λ r. ⌜ sessionOf r ≡ rules.opened ⌝ }
 {
@@ -68,6 +69,7 @@ pub fn open() -> Session
         ended: false,
         place: 0,
         rows: 0,
+        rule: RULE_LOW_BYTE,
         set: 255,
         exponents: false,
         key: false,

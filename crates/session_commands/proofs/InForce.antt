@@ -3,16 +3,16 @@
 use mathlib.Core.Path.{_≡_, refl, sym, ap, _∙_}
 use mathlib.Core.Bool.{true, false}
 use mathlib.Core.List.{List}
-use Prim.Native.Nat.{ℕ, _<_}
+use Prim.Native.Nat.{ℕ}
 use lib.IntN.{ℤ}
 use borrow.Author.Tests.{not-false}
 use Rattle.parameters.specs.declared.Params.{Params}
 use Rattle.parameters.specs.Sets.{isSet}
 use Rattle.session_rules.specs.Held.{Held}
-use Rattle.session_rules.specs.CommandTable.{isKnown, commandOf}
+use Rattle.session_rules.specs.CommandTable.{commandOf}
 use Rattle.session_rules.specs.Commands.{commandIn, command}
 use Rattle.session_rules.specs.Play.{lacksSet}
-use Rattle.session_rules.proofs.CommandTable.{needs-set, command-in}
+use Rattle.session_rules.proofs.CommandTable.{command-in}
 use Rattle.session_state.specs.declared.Flags.{Flags}
 use Rattle.session_state.specs.declared.CommandResult.{CommandResult}
 use Rattle.session_state.specs.State.{chosenIn, setHeld, heldIn, heldOf}
@@ -24,9 +24,9 @@ use Rattle.session_commands.specs.Table.{Entry, entryOf, entryIn, readyT
 use Rattle.session_commands.proofs.LookedUp.{below}
 use Rattle.session_commands.proofs.Readiness.{ready-held}
 
--- all but 00 and 01 have a set in force
-pub in-force : (set b : ℕ) → isKnown b ≡ true → 1 < b → lacksSet b (setHeld set) ≡ false → isSet set ≡ true
-in-force set b l h e = not-false (isSet set) (rw (needs-set b l h, is-held) at e)
+-- a command that needs a set has one in force
+pub in-force : (set b : ℕ) → commandOf b .needsSet ≡ true → lacksSet b (setHeld set) ≡ false → isSet set ≡ true
+in-force set b needs e = not-false (isSet set) (rw (needs, is-held) at e)
 
 module _ (p : Params) (flags : Flags) (e k v : List ℕ) (m : List ℤ) (t : List ℕ) (b : ℕ) where
   -- the table's entry of the byte decides what it needs
@@ -34,10 +34,10 @@ module _ (p : Params) (flags : Flags) (e k v : List ℕ) (m : List ℤ) (t : Lis
   unfolding entryIn
   needs-by q f is = sym (ap (λ (x : Entry). x .needs (heldIn p flags e k v m t)) is) ∙ ready-held p flags e k v m t (f .needs)
 
-  module _ (op : List ℕ) (force : InSet p (flags .set)) (other : b ≡ 1 → ⊥) where
+  module _ (op : List ℕ) (force : InSet p (flags .set)) (needs : commandOf b .needsSet ≡ true) where
     by-set : command (heldOf flags e k v m t) b op ≡ commandIn (chosenIn p (flags .set)) (heldIn p flags e k v m t) b op
     unfolding heldIn
-    by-set = rw (heldOf-in flags e k v m t (force .is) (below force)) (command-in (heldIn p flags e k v m t) b op (chosenIn p (flags .set)) refl other)
+    by-set = rw (heldOf-in flags e k v m t (force .is) (below force)) (command-in (heldIn p flags e k v m t) op (chosenIn p (flags .set)) refl b needs)
 
     pub result-by-set : (r : CommandResult) (e' k' v' : List ℕ) (m' : List ℤ) (t' s' : List ℕ) → r .flags .set ≡ flags .set
         → resultIn p r e' k' v' m' t' s' ≡ commandIn (chosenIn p (flags .set)) (heldIn p flags e k v m t) b op

@@ -38,10 +38,10 @@ all-three false b c e = absurd (true≢false (sym e))
 module _ (p : Params) (flags : Flags) (e k v : List ℕ) (m : List ℤ) (t : List ℕ) where
   -- 06, where signatures are left, and where none is
   pub signs : AllThree (hasExponents p (flags .exponents) e) (flags .key) (flags .message) → (flags .left ≡ 0 → ⊥) → {a : Signing}
-      → a ≡ signAnswer (flags .set ∷ take (p .n) k) (take (p .t) e) (flatten (masksHeld (p .n) (flags .count) m)) t (signatureRoom p)
+      → a ≡ signAnswer (flags .rule) (flags .set ∷ take (p .n) k) (take (p .t) e) (flatten (masksHeld (p .n) (flags .count) m)) t (signatureRoom p)
       → sign (chosenIn p (flags .set)) (heldIn p flags e k v m t)
       ≡ afterSigning (chosenIn p (flags .set)) (heldIn p flags e k v m t) a
-      (signWritten (flags .set ∷ take (p .n) k) (take (p .t) e) (flatten (masksHeld (p .n) (flags .count) m)) t (signatureRoom p))
+      (signWritten (flags .rule) (flags .set ∷ take (p .n) k) (take (p .t) e) (flatten (masksHeld (p .n) (flags .count) m)) t (signatureRoom p))
   unfolding sign heldIn
   signs held some told = rw (held .first, held .second, held .third, ne-eqb (flags .left) 0 some, told)
 
@@ -51,7 +51,7 @@ module _ (p : Params) (flags : Flags) (e k v : List ℕ) (m : List ℤ) (t : Lis
 
   -- 07
   pub checks : (op : List ℕ) → AllThree (hasExponents p (flags .exponents) e) (hasEvaluations p (flags .evaluations) v) (flags .message) → {a : Verdict}
-      → a ≡ checkAnswer (publicKey (flags .set) (take (p .t) e) (take (p .t) v)) t (flags .set ∷ op)
+      → a ≡ checkAnswer (flags .rule) (publicKey (flags .set) (take (p .t) e) (take (p .t) v)) t (flags .set ∷ op)
       → check (chosenIn p (flags .set)) (heldIn p flags e k v m t) op ≡ afterCheck (chosenIn p (flags .set)) (heldIn p flags e k v m t) a
   unfolding check heldIn
   checks op held told = rw (held .first, held .second, held .third, told)
@@ -62,10 +62,10 @@ tested true e = e
 tested false e = absurd (true≢false (sym e))
 
 -- the check on what is held is the check of the public key that it encodes to
-pub answer-encoded : {p : Params} {set : ℕ} (force : InSet p set) (js vs message body : List ℕ) → length message ≤ messageSize
+pub answer-encoded : {p : Params} {set : ℕ} (force : InSet p set) (js vs message body : List ℕ) (rule : ℕ) → length message ≤ messageSize
     → length js ≡ p .t → areExponents p js ≡ true → length vs ≡ p .t → areEvaluations p vs ≡ true → length body ≡ 2 * p .b + 2 * p .n
-    → answerOn drawChallenge p js vs message body ≡ checkAnswer (publicKey set js vs) message (set ∷ body)
-answer-encoded {p} {set} force js vs message body short a rise b below d =
+    → answerOn drawChallenge rule p js vs message body ≡ checkAnswer rule (publicKey set js vs) message (set ∷ body)
+answer-encoded {p} {set} force js vs message body rule short a rise b below d =
     rw (force .is)
     (sym (encoded-answer set js vs message body (force .known) (omega arith) (rw (force .is) at a) (rw (force .is) at rise) (rw (force .is) at b)
-    (rw (force .is) at below) (rw (force .is) at d)))
+    (rw (force .is) at below) (rw (force .is) at d) rule))

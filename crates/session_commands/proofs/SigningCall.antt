@@ -30,30 +30,30 @@ any-room true (some r) n s i out room e = refl
 any-room true none n s i out room e = absurd (let z : _≡_ {A = ℕ} 0 1 = cc in omega arith)
 any-room false signed n s i out room e = absurd (let z : _≡_ {A = ℕ} 0 1 = cc in omega arith)
 
-module _ {p : Params} {set : ℕ} (force : InSet p set) (key js : List ℕ) (ys : List ℤ) (message out : List ℕ) (short : length message ≤ messageSize)
+module _ {p : Params} {set : ℕ} (force : InSet p set) (rule : ℕ) (key js : List ℕ) (ys : List ℤ) (message out : List ℕ) (short : length message ≤ messageSize)
     (size : length out ≡ signatureSize p) where
   -- the room that the rules lend is as long
   room : length out ≡ length (signatureRoom p)
   room = size ∙ sym (length-replicate (signatureSize p) 0)
 
   abbrev refusal : ℕ
-  refusal = signRefusalIn p (set ∷ key) js ys (length out)
+  refusal = signRefusalIn rule p (set ∷ key) js ys (length out)
 
   abbrev signed : Option Signed
-  signed = signedBy drawChallenge p (keyOf (set ∷ key)) js ys message
+  signed = signedBy (drawChallenge rule) p (keyOf (set ∷ key)) js ys message
 
   -- neither message nor set is refused
-  alike : signRefusal (set ∷ key) js ys message (signatureRoom p) ≡ refusal
+  alike : signRefusal rule (set ∷ key) js ys message (signatureRoom p) ≡ refusal
   unfolding signRefusal
   alike =
       let long = le-ltb maxMessage (length message) (omega arith) in
       rw (long, ne-eqb (length (set ∷ key)) 0 (λ z. omega arith), force .known, ← force .is, ← room)
 
-  pub answer-lent : signAnswerIn drawChallenge p (set ∷ key) js ys message out ≡ signAnswer (set ∷ key) js ys message (signatureRoom p)
+  pub answer-lent : signAnswerIn drawChallenge rule p (set ∷ key) js ys message out ≡ signAnswer rule (set ∷ key) js ys message (signatureRoom p)
   unfolding signAnswerIn signAnswer
   answer-lent = rw (alike, ← force .is)
 
-  pub written-lent : {i : ℕ} → signAnswerIn drawChallenge p (set ∷ key) js ys message out ≡ answer.Signed i
-      → signWrittenIn drawChallenge p (set ∷ key) js ys message out ≡ signWritten (set ∷ key) js ys message (signatureRoom p)
+  pub written-lent : {i : ℕ} → signAnswerIn drawChallenge rule p (set ∷ key) js ys message out ≡ answer.Signed i
+      → signWrittenIn drawChallenge rule p (set ∷ key) js ys message out ≡ signWritten rule (set ∷ key) js ys message (signatureRoom p)
   unfolding signAnswerIn signWrittenIn signWritten
   written-lent {i} told = rw (alike, ← force .is) (any-room (eqb refusal 0) signed refusal set i out (signatureRoom p) told)

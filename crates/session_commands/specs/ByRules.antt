@@ -45,6 +45,11 @@ ByChooseSet flags op r key =
     (e v : List ℕ) (m : List ℤ) (t s : List ℕ)
     → resultOf r e (key .exit .now) v m t s ≡ rules.chooseSet (heldOf flags e (key .entry .now) v m t) op
 
+-- 0B, likewise
+abbrev pub ByChooseRule : Flags → List ℕ → CommandResult → Type 0
+ByChooseRule flags op r =
+    (e k v : List ℕ) (m : List ℤ) (t s : List ℕ) → resultOf r e k v m t s ≡ rules.chooseRule (heldOf flags e k v m t) op
+
 module _ (p : Params) (flags : Flags) (op : List ℕ) (r : CommandResult) where
   abbrev pub ByLoadExponents : Slice ℕ → Slice ℕ → Type 0
   ByLoadExponents exponents key =
@@ -77,9 +82,9 @@ module _ (p : Params) (flags : Flags) (op : List ℕ) (r : CommandResult) where
 
 -- the library's signing with what is held: its answer, and where it signs the bytes in front
 module _ (p : Params) (flags : Flags) (answer : Signing) (exponents key : Slice ℕ) (masks : Slice ℤ) (message signature : Slice ℕ) where
-  abbrev pub callHeld : {A : Type 0} → (List ℕ → List ℕ → List ℤ → List ℕ → List ℕ → A) → A
+  abbrev pub callHeld : {A : Type 0} → (ℕ → List ℕ → List ℕ → List ℤ → List ℕ → List ℕ → A) → A
   callHeld f =
-      f (flags .set ∷ take (p .n) (key .entry .now)) (take (p .t) (exponents .entry .now)) (flatten (masksHeld (p .n) (flags .count) (masks .entry .now)))
+      f (flags .rule) (flags .set ∷ take (p .n) (key .entry .now)) (take (p .t) (exponents .entry .now)) (flatten (masksHeld (p .n) (flags .count) (masks .entry .now)))
       (message .entry .now) (rules.signatureRoom p)
 
   pub record SignedHeld : Type 0 where
@@ -92,7 +97,7 @@ BySign p flags r exponents key masks message signature =
     (v : List ℕ) → By rules.sign p flags r (lent exponents) (lent key) (kept v) (lent masks) (lent message) (signature .exit .now)
 
 module _ (byte : ℕ) (op : List ℕ) (r : CommandResult) (exponents key evaluations : Slice ℕ) (masks : Slice ℤ) (message signature : Slice ℕ) where
-  -- all but 01, by the byte
+  -- those that need a set, by the byte
   abbrev pub ByCommandIn : Params → Flags → Type 0
   ByCommandIn p flags =
       By (λ c h. rules.commandIn c h byte op) p flags r (lent exponents) (lent key) (lent evaluations) (lent masks) (lent message) (signature .exit .now)

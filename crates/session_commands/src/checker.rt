@@ -58,6 +58,7 @@ pub fn check_held(
         &evaluations[..t],
         operand,
         message,
+        flags.rule,
     );
     match verdict {
         Verdict::Yes => judged(flags, 1),

@@ -12,6 +12,7 @@ ghost use Rattle.session_commands.specs.Asks.{InSet, Ready, Sizes};
 ghost use Rattle.session_commands.specs.ByRules.{ByCommandIn, ByCommand};
 ghost use Rattle.session_commands.specs.Table.{readyTo, entryOf, entryIn};
 use crate::checker::check_held;
+use crate::loading::choose_rule;
 use crate::loading::choose_set;
 use crate::loading::load_evaluations;
 use crate::loading::load_exponents;
@@ -90,6 +91,7 @@ fn form_in(p: Params, byte: u8) -> Form
         7 => entry(true, 2 * p.b + 2 * p.n, Needs::ToCheck),
         8 => entry(true, 3 * p.t, Needs::ToLoad),
         10 => entry(true, 2, Needs::ToGrant),
+        11 => entry(false, 1, Needs::Nothing),
         _ => unknown(),
     }
 }
@@ -130,7 +132,7 @@ pub fn plain(number: u32, flags: Flags) -> CommandResult
     }
 }
 
-// All but 01 in a set, with all that the command needs held.
+// A command that needs a set, in the one in force, with all that it needs held.
 fn run_in(
     p: Params,
     flags: Flags,
@@ -143,7 +145,7 @@ fn run_in(
     message: &mut [u8],
     signature: &mut [u8],
 ) -> CommandResult
-    requires { ⌜ InSet p (flags .set) × (1 < byte) × (isKnown byte ≡ true) × (length (now operand) ≡ commandOf byte .size p) ⌝ }
+    requires { ⌜ InSet p (flags .set) × (commandOf byte .needsSet ≡ true) × (length (now operand) ≡ commandOf byte .size p) ⌝ }
     requires { ⌜ Sizes (now exponents) (now key) (now evaluations) (now masks) (now message) (now signature) ⌝ }
     requires { ⌜ Ready p flags byte (now exponents) (now evaluations) ⌝ }
     ensures result { λ r. ⌜ ByCommandIn byte (now (operand .entry)) r exponents key evaluations masks message signature p flags ⌝ }
@@ -180,6 +182,9 @@ pub fn run_command(
 {
     if byte == 1 {
         return choose_set(flags, operand, key);
+    }
+    if byte == 11 {
+        return choose_rule(flags, operand);
     }
     let p = params_of(flags.set);
     let form = form_of(flags.set, byte);

@@ -1,4 +1,4 @@
-// The commands that load: a set, points, a key, a mask, a message, public evaluations.
+// The commands that load: a set, a rule of hashing, points, a key, a mask, a message, public evaluations.
 ghost use mathlib.Core.Path.{_≡_};
 ghost use mathlib.Core.Bool.{true};
 ghost use mathlib.Core.List.{map};
@@ -11,8 +11,9 @@ ghost use Rattle.encoding.specs.Bytes.{numbers, signed16};
 ghost use Rattle.session_state.specs.Room.{maskRoom, messageSize};
 ghost use Rattle.session_state.specs.State.{hasExponents};
 ghost use Rattle.session_commands.specs.Asks.{InSet};
-ghost use Rattle.session_commands.specs.ByRules.{ByChooseSet, ByLoadExponents, ByLoadMessage, ByLoadEvaluations, ByLoadKey, ByLoadMask};
+ghost use Rattle.session_commands.specs.ByRules.{ByChooseSet, ByChooseRule, ByLoadExponents, ByLoadMessage, ByLoadEvaluations, ByLoadKey, ByLoadMask};
 use crate::plain;
+use challenge::is_rule;
 use encoding::numbers::are_below;
 use encoding::numbers::are_exponents;
 use encoding::numbers::copy_u8;
@@ -33,6 +34,7 @@ use refusal::WRONG_EVALUATION;
 use refusal::WRONG_EXPONENTS;
 use refusal::WRONG_KEY;
 use refusal::WRONG_MASK;
+use refusal::WRONG_RULE;
 use refusal::WRONG_SET;
 use session_state::Added;
 use session_state::CommandResult;
@@ -53,7 +55,7 @@ fn clear(bytes: &mut [u8])
     }
 }
 
-// 01. Forgets all else held, and clears the key.
+// 01. Forgets all else held, and clears the key; the rule stays.
 pub fn choose_set(flags: Flags, operand: &[u8], key: &mut [u8]) -> CommandResult
     requires { ⌜ length (now operand) ≡ 1 ⌝ }
     ensures { λ r. ⌜ ByChooseSet flags (now (operand .entry)) r key ⌝ }
@@ -70,6 +72,20 @@ pub fn choose_set(flags: Flags, operand: &[u8], key: &mut [u8]) -> CommandResult
     next.evaluations = false;
     next.message = false;
     next.count = 0;
+    plain(0, next)
+}
+
+// 0B. All that is held stays.
+pub fn choose_rule(flags: Flags, operand: &[u8]) -> CommandResult
+    requires { ⌜ length (now operand) ≡ 1 ⌝ }
+    ensures { λ r. ⌜ ByChooseRule flags (now (operand .entry)) r ⌝ }
+{
+    let rule = operand[0];
+    if !is_rule(rule) {
+        return plain(WRONG_RULE, flags);
+    }
+    let mut next = flags;
+    next.rule = rule;
     plain(0, next)
 }
 

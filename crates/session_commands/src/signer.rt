@@ -74,6 +74,7 @@ fn sign_with(
         &masks[..offered],
         message,
         &mut signature[..size],
+        flags.rule,
     )
 }
 

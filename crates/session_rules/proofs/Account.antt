@@ -75,8 +75,10 @@ module _ (m : Material) (a : Available) where
     accepted-bytes : withAccepted m b op .key ≡ m .key
     unfolding withAccepted
     accepted-bytes =
+        let same : Material → Type 0 = λ (x : Material). x .key ≡ m .key in
         rw (one, two, three)
-        (by-test (eqb b 4) (λ t. rw t) (λ t. by-test (eqb b 5) (λ u. rw (t, u)) (λ u. by-test (eqb b 6) (λ v. rw (t, u, v)) (λ v. rw (t, u, v)))))
+        (cond-by same (eqb b 4) (λ t. refl) (λ t. cond-by same (eqb b 5) (λ u. refl)
+        (λ u. cond-by same (eqb b 6) (λ v. refl) (λ v. cond-by same (eqb b 11) (λ x. refl) (λ x. refl)))))
 
   module _ (e : Event) where
     -- a command that keeps the key: what is left is what it grants, or one less where it signs

@@ -19,15 +19,16 @@ use Rattle.parameters.specs.declared.Params.{Params}
 use Rattle.parameters.specs.Sets.{isSet}
 use Rattle.polynomial.proofs.EvaluationLaws.{length-evaluations, length-evaluation-residues, evaluation-residues-below}
 use Rattle.polynomial.proofs.SignedForm.{evaluations-within}
+use Rattle.challenge.specs.Pool.{isRule}
 use Rattle.encoding.specs.Bytes.{valueOf, numbers, signed16}
 use Rattle.encoding.specs.Challenge.{areEntries}
-use Rattle.encoding.specs.Encoding.{isKeyByte, keyCoefficient, areExponents, areEvaluations, entriesIn}
+use Rattle.encoding.specs.Encoding.{isKeyByte, keyCoefficient, areExponents, areEvaluations, publicKey, entriesIn}
 use Rattle.encoding.proofs.Parts.{length-numbers}
 use Rattle.refusal.specs.Numbers.{nonePasses, notHeld, noneLeft}
 use Rattle.refusal.specs.declared.Signing.{Signing}
 use Rattle.refusal.specs.declared.Signing.the-variants as signing
 use Rattle.signing.specs.Sign.{signAnswer, signWritten}
-use Rattle.checking.specs.Check.{verdictAfter}
+use Rattle.checking.specs.Check.{verdictAfter, checkAnswer}
 use Rattle.passign.specs.Hiding.{ourLibrary}
 use Rattle.passign.proofs.SignatureSize.{entry-signature-size}
 use Rattle.text.specs.Text.{decimal, hex, spaced}
@@ -36,7 +37,7 @@ use Rattle.session_rules.specs.Held.{Chosen, paramsOf, Held, isHeld, giv
 use Rattle.session_rules.specs.CommandTable.{commandTable, isKnown, commandOf, forLoading, forSigning, forChecking, forGranting}
 use Rattle.session_rules.specs.Commands.{Payload, nothing, values, signed, judged, Result, accepted, refused}
 use Rattle.session_rules.specs.Commands.{keyEvaluations, keyResidues, loadedKey, maskOf, commandIn, command}
-use Rattle.session_rules.specs.Commands.{chooseSet, loadExponents, loadKey, loadMask, loadMessage, loadEvaluations}
+use Rattle.session_rules.specs.Commands.{chooseSet, chooseRule, loadExponents, loadKey, loadMask, loadMessage, loadEvaluations}
 use Rattle.session_rules.specs.Commands.{afterSigning, callSigning, sign, afterCheck, check, grant}
 use Rattle.session_rules.specs.Rows.{payloadText}
 use Rattle.session_rules.specs.Play.{lacksSet}
@@ -45,9 +46,9 @@ use Rattle.session_rules.specs.HeldIsRead.{Available, availableWithAccep
 use Rattle.session_rules.specs.Verdicts.{holdsOf, verdictPrinted}
 use Rattle.session_rules.specs.PrintedEvaluations.{evaluationsPrinted}
 use Rattle.session_rules.specs.Refusals.{isEnding}
-use Rattle.session_rules.proofs.CommandTable.{by-known, needs-set, command-set, command-in}
+use Rattle.session_rules.proofs.CommandTable.{by-needing, by-free, command-set, command-rule, command-in}
 use Rattle.session_rules.proofs.Kept.{TestedSet, isMask, Kept, gone, kept, is-available, kept-as, needed, KeptAll}
-use Rattle.session_rules.proofs.Kept.{keep-exponents, keep-key, keep-left, keep-evaluations, keep-message, keep-masks, only-set}
+use Rattle.session_rules.proofs.Kept.{keep-rule, keep-exponents, keep-key, keep-left, keep-evaluations, keep-message, keep-masks, only-set}
 use Rattle.session_rules.proofs.Library.{sound, fitting, sign-refused, check-by-rule}
 
 -- a command that was played; what is read of it does not look at its buffer
@@ -149,7 +150,14 @@ module _ (m : Material) (a : Available) (h : Held) (w : KeptAll m a h) (op : Lis
       let byte = getD op 0 0 in
       unless 1 2 refl refl refl refl (isSet byte)
       (λ e. accepted-facts 1 refl refl refl (λ three. absurd (omega arith)) (omega arith)
-      (only-set (readSet m (chosenBy byte)) (a .values) (a .left) (kept (record { known = ltb-true byte 5 e; own = refl }))))
+      (only-set (readSet m (chosenBy byte)) (a .values) (a .left) (w .rule) (kept (record { known = ltb-true byte 5 e; own = refl }))))
+
+  rule-facts : Facts 11 (chooseRule h op)
+  unfolding chooseRule withCommand withAccepted availableWith availableWithAccepted
+  rule-facts =
+      let byte = getD op 0 0 in
+      unless 11 18 refl refl refl refl (isRule byte)
+      (λ e. accepted-facts 11 refl refl refl (λ three. absurd (omega arith)) (omega arith) (keep-rule w byte (record { known = e })))
 
   -- in the set read
   module _ (s : TestedSet (m .set)) where
@@ -232,7 +240,7 @@ module _ (m : Material) (a : Available) (h : Held) (w : KeptAll m a h) (op : Lis
       refusal = λ z. absurd (z refl);
       accepted-ends = λ z. refl;
       short =
-          let size = rw (← b, ← s .own) at (entry-signature-size _ _ _ _ _ e) in
+          let size = rw (← b, ← s .own) at (entry-signature-size _ _ _ _ _ _ e) in
           omega (arith, length-append (spaced (decimal i)) (spaced (hex bytes)), length-decimal i, length-hex bytes, fitting s .size, fitting s .weight);
     }
     after-answer (signing.Refused n) bytes e b nine same tested =
@@ -278,8 +286,9 @@ module _ (m : Material) (a : Available) (h : Held) (w : KeptAll m a h) (op : Lis
         let same = ap leftOf ks in
         cond-by (Facts 6) (eqb (leftOf (h .key)) 0)
         (λ none. refused-facts 6 17 refl refl refl (λ six goes. record { lacks = rw can; spent = λ e. sym (rw same at none) }))
-        (λ left. after-answer (callSigning c h signAnswer) (callSigning c h signWritten) (rw (js, ks, ts, w .masks .0)) (rw (js, ks, ts, w .masks .0))
-        (sign-refused s key exponents (rw (w .masks .0) at (w .masks .1)) message) same (some-left can (rw same at left)))
+        (λ left. after-answer (callSigning c h signAnswer) (callSigning c h signWritten) (rw (w .rule .0, js, ks, ts, w .masks .0))
+        (rw (w .rule .0, js, ks, ts, w .masks .0))
+        (sign-refused s (w .rule .1) key exponents (rw (w .masks .0) at (w .masks .1)) message) same (some-left can (rw same at left)))
 
     -- an accepted 07, whose row prints v
     judged-facts : (v : ℕ) → v ≡ cond (holdsOf m a op) 1 0 → Facts 7 (accepted h (judged v))
@@ -309,7 +318,10 @@ module _ (m : Material) (a : Available) (h : Held) (w : KeptAll m a h) (op : Lis
         let (js, exponents) = needed (w .exponents) j in
         let (vs, evaluations) = needed (w .evaluations) v in
         let (ts, message) = needed (w .message) t in
-        rw (ap given js, ap given vs, ap given ts, check-by-rule s exponents evaluations message op size)
+        let answer = checkAnswer (h .rule) (publicKey (c .byte) (given (h .exponents)) (given (h .evaluations))) (given (h .message)) (c .byte ∷ op) in
+        let is : answer ≡ verdictAfter (cond (not (areEntries (p .n) (entriesIn p op))) 12 0) (holdsOf m a op) =
+        rw (w .rule .0, ap given js, ap given vs, ap given ts) (check-by-rule s (w .rule .1) exponents evaluations message op size) in
+        rw is
         (after-check (areEntries (p .n) (entriesIn p op)) (holdsOf m a op) refl)
 
     evaluations-facts : Facts 8 (loadEvaluations c h op)
@@ -324,34 +336,34 @@ module _ (m : Material) (a : Available) (h : Held) (w : KeptAll m a h) (op : Lis
     unfolding grant withCommand withAccepted availableWith availableWithAccepted
     grant-facts n = accepted-facts 10 refl refl refl (λ three. absurd (omega arith)) (omega arith) (keep-left w (valueOf op))
 
-    -- all but 00 and 01
-    in-set-facts : (b : ℕ) → isKnown b ≡ true → 1 < b → length op ≡ commandOf b .size p → Facts b (commandIn c h b op)
+    -- the commands that need a set
+    in-set-facts : (b : ℕ) → commandOf b .needsSet ≡ true → length op ≡ commandOf b .size p → Facts b (commandIn c h b op)
     unfolding commandIn commandOf commandTable
     in-set-facts =
-        by-known (λ (b : ℕ). 1 < b → length op ≡ commandOf b .size p → Facts b (commandIn c h b op))
-        (λ l. absurd (omega arith))
-        (λ l. absurd (omega arith))
-        (λ l size. exponents-facts)
-        (λ l size. unless 3 10 refl refl refl refl (forLoading h) (λ n. key-facts (true-holds n) size))
-        (λ l size. mask-facts)
-        (λ l. message-facts)
-        (λ l size. cond-by (Facts 6) (not (forSigning h)) (λ t. refused-facts 6 10 refl refl refl (λ six goes. nothing-signs (not-true (forSigning h) t)))
+        by-needing (λ (b : ℕ). length op ≡ commandOf b .size p → Facts b (commandIn c h b op))
+        (λ size. exponents-facts)
+        (λ size. unless 3 10 refl refl refl refl (forLoading h) (λ n. key-facts (true-holds n) size))
+        (λ size. mask-facts)
+        message-facts
+        (λ size. cond-by (Facts 6) (not (forSigning h)) (λ t. refused-facts 6 10 refl refl refl (λ six goes. nothing-signs (not-true (forSigning h) t)))
         (λ t. sign-facts (not-false (forSigning h) t)))
-        (λ l size. unless 7 10 refl refl refl refl (forChecking h) (λ n. check-facts (true-holds n) size))
-        (λ l size. unless 8 10 refl refl refl refl (forLoading h) (λ n. evaluations-facts))
-        (λ l size. unless 10 10 refl refl refl refl (forGranting h) (λ n. grant-facts (true-holds n)))
+        (λ size. unless 7 10 refl refl refl refl (forChecking h) (λ n. check-facts (true-holds n) size))
+        (λ size. unless 8 10 refl refl refl refl (forLoading h) (λ n. evaluations-facts))
+        (λ size. unless 10 10 refl refl refl refl (forGranting h) (λ n. grant-facts (true-holds n)))
 
-  -- the same where a set is held, if they need one
-  in-force : (b : ℕ) → isKnown b ≡ true → 1 < b → {x : Bool} {o : Option Chosen} → Kept TestedSet (m .set) x o → lacksSet b o ≡ false
+  -- the same where a set is held
+  in-force : (b : ℕ) → commandOf b .needsSet ≡ true → {x : Bool} {o : Option Chosen} → Kept TestedSet (m .set) x o → lacksSet b o ≡ false
       → length op ≡ commandOf b .size (paramsOf o) → (o ≡ some (m .set)) × Facts b (commandIn (m .set) h b op)
-  in-force b high low gone lacks size = absurd (true≢false (rw (needs-set b high low) at lacks))
-  in-force b high low (kept s) lacks size = (refl, in-set-facts s b high low size)
+  in-force b needs gone lacks size = absurd (true≢false (rw needs at lacks))
+  in-force b needs (kept s) lacks size = (refl, in-set-facts s b needs size)
 
   -- all but 00, with an operand of its size
   pub command-facts : (b : ℕ) → isKnown b ≡ true → (b ≡ 0 → ⊥) → lacksSet b (h .set) ≡ false → length op ≡ commandOf b .size (paramsOf (h .set))
       → Facts b (command h b op)
-  command-facts b high nonzero lacks size =
-      by-test (eqb b 1) (λ e. rw (eqb-true b 1 e, command-set h op) set-facts)
-      (λ e.
-      let (set, facts) = in-force b high (omega (arith, eqb-false b 1 e)) (w .set) lacks size in
-      rw (command-in h b op (m .set) set (eqb-false b 1 e)) facts)
+  command-facts b known nonzero lacks size =
+      by-test (commandOf b .needsSet)
+      (λ needs.
+      let (set, facts) = in-force b needs (w .set) lacks size in
+      rw (command-in h op (m .set) set b needs) facts)
+      (λ free. by-free (λ (b : ℕ). (b ≡ 0 → ⊥) → Facts b (command h b op)) (λ n. absurd (n refl)) (λ n. rw (command-set h op) set-facts)
+      (λ n. rw (command-rule h op) rule-facts) b known free nonzero)

@@ -14,10 +14,11 @@ use Rattle.algebra.specs.All.{all}
 use Rattle.algebra.specs.Integer.{within}
 use Rattle.parameters.specs.declared.Params.{Params}
 use Rattle.parameters.specs.Sets.{setOf}
+use Rattle.challenge.specs.Pool.{isRule}
 use Rattle.encoding.specs.Encoding.{isKeyByte, areExponents, areEvaluations}
 use Rattle.session_rules.specs.Held.{Chosen, HeldKey, Held, onlySet, isHeld, leaving}
-use Rattle.session_rules.specs.Held.{withExponents, withKey, withLeft, withEvaluations, withMasks, withMessage}
-use Rattle.session_rules.specs.Plays.{Material, paramsIn, readExponents, readKey, readMasks, readMessage}
+use Rattle.session_rules.specs.Held.{withRule, withExponents, withKey, withLeft, withEvaluations, withMasks, withMessage}
+use Rattle.session_rules.specs.Plays.{Material, paramsIn, readRule, readExponents, readKey, readMasks, readMessage}
 use Rattle.session_rules.specs.HeldIsRead.{Available, setExponents, setKey, setLeft, setEvaluations, setMessage}
 use Rattle.session_rules.specs.HeldIsRead.{Holding, absent, holds, keyRead, HeldIsRead}
 
@@ -26,6 +27,9 @@ use Rattle.session_rules.specs.HeldIsRead.{Holding, absent, holds, keyRe
 pub record TestedSet (c : Chosen) : Type 0 where
   pub known : c .byte < 5
   pub own : c .params ≡ setOf (c .byte)
+
+pub record TestedRule (rule : ℕ) : Type 0 where
+  pub known : isRule rule ≡ true
 
 pub record TestedMessage (l : List ℕ) : Type 0 where
   pub size : length l ≡ 64
@@ -88,6 +92,7 @@ leave n (kept t) = kept (record { size = t .size; bytes = t .bytes })
 
 -- everything held, with what is read
 pub record KeptAll (m : Material) (a : Available) (h : Held) : Type 0 where
+  pub rule : (h .rule ≡ m .rule) × TestedRule (m .rule)
   pub set : Kept TestedSet (m .set) (a .set) (h .set)
   pub exponents : Kept (TestedExponents (paramsIn m)) (m .exponents) (a .exponents) (h .exponents)
   pub key : Kept (TestedKey (paramsIn m)) (keyRead m a) (a .key) (h .key)
@@ -98,6 +103,7 @@ pub record KeptAll (m : Material) (a : Available) (h : Held) : Type 0 where
 module _ {m : Material} {a : Available} {h : Held} (w : KeptAll m a h) where
   pub held-read : HeldIsRead m a h
   held-read = record {
+    rule = w .rule .0;
     set = holding (w .set);
     exponents = holding (w .exponents);
     key = holding (w .key);
@@ -108,28 +114,47 @@ module _ {m : Material} {a : Available} {h : Held} (w : KeptAll m a h) where
 
   module _ {x : Bool} {o : Option (List ℕ)} (l : List ℕ) where
     pub keep-exponents : Kept (TestedExponents (paramsIn m)) l x o → KeptAll (readExponents m l) (setExponents a x) (withExponents h o)
-    keep-exponents k = record { set = w .set; exponents = k; key = w .key; evaluations = w .evaluations; message = w .message; masks = w .masks }
+    keep-exponents k = record { rule = w .rule; set = w .set; exponents = k; key = w .key; evaluations = w .evaluations; message = w .message; masks = w .masks }
 
     pub keep-evaluations : Kept (TestedEvaluations (paramsIn m)) l x o → KeptAll m (setEvaluations a x l) (withEvaluations h o)
-    keep-evaluations k = record { set = w .set; exponents = w .exponents; key = w .key; evaluations = k; message = w .message; masks = w .masks }
+    keep-evaluations k = record { rule = w .rule; set = w .set; exponents = w .exponents; key = w .key; evaluations = k; message = w .message; masks = w .masks }
 
     pub keep-message : Kept TestedMessage l x o → KeptAll (readMessage m l) (setMessage a x) (withMessage h o)
-    keep-message k = record { set = w .set; exponents = w .exponents; key = w .key; evaluations = w .evaluations; message = k; masks = w .masks }
+    keep-message k = record { rule = w .rule; set = w .set; exponents = w .exponents; key = w .key; evaluations = w .evaluations; message = k; masks = w .masks }
+
+  pub keep-rule : (rule : ℕ) → TestedRule rule → KeptAll (readRule m rule) a (withRule h rule)
+  keep-rule rule known = record {
+    rule = (refl, known);
+    set = w .set;
+    exponents = w .exponents;
+    key = w .key;
+    evaluations = w .evaluations;
+    message = w .message;
+    masks = w .masks;
+  }
 
   pub keep-key : {x : Bool} {o : Option HeldKey} (k : HeldKey) → Kept (TestedKey (paramsIn m)) k x o
       → KeptAll (readKey m (k .bytes)) (setLeft (setKey a x) (k .left)) (withKey h o)
-  keep-key k t = record { set = w .set; exponents = w .exponents; key = t; evaluations = w .evaluations; message = w .message; masks = w .masks }
+  keep-key k t = record { rule = w .rule; set = w .set; exponents = w .exponents; key = t; evaluations = w .evaluations; message = w .message; masks = w .masks }
 
   pub keep-left : (n : ℕ) → KeptAll m (setLeft a n) (withLeft h n)
   keep-left n =
-      record { set = w .set; exponents = w .exponents; key = leave n (w .key); evaluations = w .evaluations; message = w .message; masks = w .masks }
+      record { rule = w .rule; set = w .set; exponents = w .exponents; key = leave n (w .key); evaluations = w .evaluations; message = w .message; masks = w .masks }
 
   pub keep-masks : {ys zs : List (List ℤ)} → ys ≡ zs → TestedMasks (paramsIn m) ys → KeptAll (readMasks m zs) a (withMasks h ys)
   keep-masks e t =
-      record { set = w .set; exponents = w .exponents; key = w .key; evaluations = w .evaluations; message = w .message; masks = (e, t) }
+      record { rule = w .rule; set = w .set; exponents = w .exponents; key = w .key; evaluations = w .evaluations; message = w .message; masks = (e, t) }
 
 -- nothing but a set, or nothing at all
-pub only-set : (m : Material) {x : Bool} {o : Option Chosen} (vs : List ℕ) (n : ℕ) → Kept TestedSet (m .set) x o
-    → KeptAll (readMasks m []) (record { set = x; exponents = false; key = false; evaluations = false; message = false; values = vs; left = n }) (onlySet o)
-only-set m vs n k =
-    record { set = k; exponents = gone; key = gone; evaluations = gone; message = gone; masks = (refl, record { each = tt; few = omega arith }) }
+pub only-set : (m : Material) {x : Bool} {rule : ℕ} {o : Option Chosen} (vs : List ℕ) (n : ℕ) → (rule ≡ m .rule) × TestedRule (m .rule) → Kept TestedSet (m .set) x o
+    → KeptAll (readMasks m []) (record { set = x; exponents = false; key = false; evaluations = false; message = false; values = vs; left = n })
+    (onlySet rule o)
+only-set m vs n rule k = record {
+  rule = rule;
+  set = k;
+  exponents = gone;
+  key = gone;
+  evaluations = gone;
+  message = gone;
+  masks = (refl, record { each = tt; few = omega arith });
+}

@@ -7,6 +7,7 @@ pub mod HidingOfSessions
 pub mod MasksInOrder
 pub mod FirstPassing
 pub mod Verdicts
+pub mod RuleInForce
 pub mod PrintedEvaluations
 pub mod PrintedRows
 pub mod Ordinals

@@ -32,7 +32,7 @@ use Rattle.checking.proofs.Encoded.{encoded-answer}
 use Rattle.refusal.proofs.Apart.{refused-same, refused-not-signed}
 use Rattle.session_rules.specs.Held.{Chosen, HeldKey}
 use Rattle.session_rules.specs.Commands.{signatureRoom}
-use Rattle.session_rules.proofs.Kept.{TestedSet, isMask, TestedExponents, TestedKey, TestedEvaluations, TestedMessage, TestedMasks}
+use Rattle.session_rules.proofs.Kept.{TestedSet, TestedRule, isMask, TestedExponents, TestedKey, TestedEvaluations, TestedMessage, TestedMasks}
 
 -- ---- masks one after the other
 
@@ -104,12 +104,12 @@ module _ {c : Chosen} (s : TestedSet c) where
   pub fitting : Fitting p
   fitting = rw (s .own) (set-fitting (c .byte) (s .known))
 
-  module _ {key : HeldKey} {exponents : List ℕ} {masks : List (List ℤ)} {message : List ℕ}
+  module _ {rule : ℕ} {key : HeldKey} {exponents : List ℕ} {masks : List (List ℤ)} {message : List ℕ} (r : TestedRule rule)
       (k : TestedKey p key) (j : TestedExponents p exponents) (t : TestedMasks p masks) (m : TestedMessage message) where
-    pub sign-refused : (n : ℕ) → signAnswer (c .byte ∷ key .bytes) exponents (flatten masks) message (signatureRoom p) ≡ signing.Refused n → n ≡ 9
+    pub sign-refused : (n : ℕ) → signAnswer rule (c .byte ∷ key .bytes) exponents (flatten masks) message (signatureRoom p) ≡ signing.Refused n → n ≡ 9
     unfolding signAnswer signRefusal signRefusalIn isKey
     sign-refused n e =
-        signed-or-nine (signedBy drawChallenge p (keyOf (c .byte ∷ key .bytes)) exponents (flatten masks) message) n
+        signed-or-nine (signedBy (drawChallenge rule) p (keyOf (c .byte ∷ key .bytes)) exponents (flatten masks) message) n
         (rw (
           le-ltb 65535 (length message) (omega arith),
           ne-eqb (length (c .byte ∷ key .bytes)) 0 (λ e. omega arith),
@@ -119,6 +119,7 @@ module _ {c : Chosen} (s : TestedSet c) where
           eq-eqb (length exponents) (p .t) (j .size),
           masks-flattened p t,
           eq-eqb (length (signatureRoom p)) (signatureSize p) (length-replicate (signatureSize p) 0),
+          r .known,
           j .rise,
           k .bytes,
           holds-true (within (p .k) (flatten masks)) (flattened-within p masks (t .each)),
@@ -126,13 +127,13 @@ module _ {c : Chosen} (s : TestedSet c) where
 
   -- ---- the check
 
-  module _ {exponents vs message : List ℕ} (j : TestedExponents p exponents) (v : TestedEvaluations p vs) (m : TestedMessage message)
+  module _ {rule : ℕ} {exponents vs message : List ℕ} (r : TestedRule rule) (j : TestedExponents p exponents) (v : TestedEvaluations p vs) (m : TestedMessage message)
       (op : List ℕ) (size : length op ≡ 2 * p .b + 2 * p .n) where
     -- it answers by the test of the entries and by the paper's rule
-    pub check-by-rule : checkAnswer (publicKey (c .byte) exponents vs) message (c .byte ∷ op)
-        ≡ verdictAfter (cond (not (areEntries (p .n) (entriesIn p op))) 12 0) (verdict drawChallenge p exponents message vs (bodyRead p op))
+    pub check-by-rule : checkAnswer rule (publicKey (c .byte) exponents vs) message (c .byte ∷ op)
+        ≡ verdictAfter (cond (not (areEntries (p .n) (entriesIn p op))) 12 0) (verdict (drawChallenge rule) p exponents message vs (bodyRead p op))
     unfolding answerOn checkRefusalOf
     check-by-rule =
         let known = lt-ltb (c .byte) 5 (s .known) in
         let asked = rw (← s .own) at (encoded-answer (c .byte) exponents vs message op known (omega arith)) in
-        rw (j .rise, v .below) at (asked (j .size) (j .rise) (v .size) (v .below) size)
+        rw (r .known, j .rise, v .below) at (asked (j .size) (j .rise) (v .size) (v .below) size rule)

@@ -20,7 +20,7 @@ use Rattle.session_rules.proofs.After.{play-by}
 
 pub kept-opened : KeptAll noMaterial noneAvailable (opened .held)
 unfolding opened noMaterial noneAvailable
-kept-opened = only-set noMaterial [] 0 gone
+kept-opened = only-set noMaterial [] 0 (refl, record { known = refl }) gone
 
 -- ---- one play that writes a row, whatever the file
 

@@ -3,17 +3,17 @@
 use mathlib.Core.Path.{_≡_, refl, sym, ap, ap₂, _∙_}
 use mathlib.Core.Bool.{Bool, true, false, true≢false, not, _&&_, _||_, cond}
 use mathlib.Core.List.{List, [], _∷_, _++_, append-assoc, append-nil}
-use mathlib.Core.Option.{Option}
+use mathlib.Core.Option.{Option, none}
 use Prim.Native.Nat.{ℕ, suc, _+_, _≤_, _<_}
 use native.Mathlib.Numerals.{add-one}
 use native.Mathlib.Omega.{arith}
 use lib.Dec.{T, ltb, leb, eqb, eqb→eq}
 use lib.ListN.{length, getD, take, drop, length-append}
 use lib.Seq.{take-suc, take-add}
-use borrow.Author.Tests.{lt-ltb, eqb-true, eqb-false, ne-eqb}
+use borrow.Author.Tests.{lt-ltb, ne-eqb}
 use Rattle.algebra.proofs.Test.{and-left, and-right, true-holds, by-test}
 use Rattle.session_rules.specs.Held.{Chosen, paramsOf}
-use Rattle.session_rules.specs.CommandTable.{commandTable, isKnown, commandOf}
+use Rattle.session_rules.specs.CommandTable.{isKnown, commandOf}
 use Rattle.session_rules.specs.Play.{Session, opened, Step, isTagged, lacksSet, byteDue, sizeDue, operandDue, step, Outcome}
 use Rattle.session_rules.specs.Plays.{Event, eventOf, eventsFrom, events, Material, noMaterial, paramsIn}
 use Rattle.session_rules.specs.HeldIsRead.{Available, noneAvailable}
@@ -24,7 +24,7 @@ use Rattle.session_rules.specs.FilePlayed.{tag, commandBytes, behindTag,
 use Rattle.session_rules.proofs.After.{play-by}
 use Rattle.session_rules.proofs.Ending.{ended-stays}
 use Rattle.session_rules.proofs.Cases.{placeDue, operand-whole, step-by}
-use Rattle.session_rules.proofs.CommandTable.{needs-set}
+use Rattle.session_rules.proofs.CommandTable.{free-size}
 use Rattle.session_rules.proofs.Kept.{TestedSet, Kept, gone, kept, KeptAll}
 use Rattle.session_rules.proofs.Reaching.{kept-opened, rowEvent, plays-by}
 
@@ -199,8 +199,8 @@ module _ (file : List ℕ) where
         last = e;
         rows = refl;
         early = λ f.
-            let (none, here) = not-begun es s r f in
-            record { alone = none; byte = b ∙ x .early here .0; operand = o ∙ x .operand g; number = n ∙ x .early here .1 };
+            let (alone, here) = not-begun es s r f in
+            record { alone = alone; byte = b ∙ x .early here .0; operand = o ∙ x .operand g; number = n ∙ x .early here .1 };
         behind = λ f.
             let here = behind-first es s r f in
             let (read, place) = due es s r here in
@@ -231,8 +231,8 @@ module _ (file : List ℕ) where
       let next = step s file .session in
       by-test (next .ended)
       (λ f.
-      let (none, same) = ended-stays file next f buffers in
-      rw (none, same) (record {
+      let (no-more, same) = ended-stays file next f buffers in
+      rw (no-more, same) (record {
         read = λ z. absurd (true≢false (sym f ∙ z));
         place = λ z. absurd (true≢false (sym f ∙ z));
         ends = λ z. lasts es s r e refl refl refl f;
@@ -242,13 +242,11 @@ module _ (file : List ℕ) where
   -- ---- where each command ends
 
   -- the set that a command's size goes by: the one read, where the command needs one
-  sized-by : (m : Material) (b : ℕ) → isKnown b ≡ true → (b ≡ 0 → ⊥) → {x : Bool} {o : Option Chosen} → Kept TestedSet (m .set) x o → lacksSet b o ≡ false
+  sized-by : (m : Material) (b : ℕ) → isKnown b ≡ true → {x : Bool} {o : Option Chosen} → Kept TestedSet (m .set) x o → lacksSet b o ≡ false
       → commandOf b .size (paramsOf o) ≡ commandOf b .size (paramsIn m)
-  unfolding commandOf commandTable
-  sized-by m b high nonzero (kept s) lacks = refl
-  sized-by m b high nonzero gone lacks =
-      by-test (eqb b 1) (λ e. rw (eqb-true b 1 e))
-      (λ e. absurd (true≢false (rw (needs-set b high (omega (arith, eqb-false b 1 e))) at lacks)))
+  sized-by m b known (kept s) lacks = refl
+  sized-by m b known gone lacks =
+      by-test (commandOf b .needsSet) (λ needs. absurd (true≢false (rw needs at lacks))) (free-size (paramsOf none) (paramsIn m) b known)
 
   step-sized : (m : Material) (a : Available) (s : Session) → KeptAll m a (s .held) → (buffer : List ℕ) → IsSized m (rowEvent s file buffer)
   step-sized m a s w buffer =
@@ -258,7 +256,7 @@ module _ (file : List ℕ) where
       (λ d g z.
       let at = placeDue s in
       operand-whole file at (sizeDue file at (s .held .set)) (d .allowed .whole)
-      ∙ sized-by m (byteDue file at) (d .allowed .known) (d .nonzero) (w .set) (d .allowed .needs))
+      ∙ sized-by m (byteDue file at) (d .allowed .known) (w .set) (d .allowed .needs))
 
   pub each-sized : (buffers : List (List ℕ)) → EachSized noMaterial (events file buffers)
   unfolding events

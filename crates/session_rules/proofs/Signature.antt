@@ -33,14 +33,14 @@ module _ (call : Call) {i : ℕ} (e : ourLibrary .signs call ≡ signing.Signed 
   set = setByte (call .key)
 
   -- the signing in its set, and the signature behind the bytes
-  in-set : SignedInSet (call .key) (call .exponents) (call .masks) (call .message) (call .out) i
-  in-set = sign-entry (call .key) (call .exponents) (call .masks) (call .message) (call .out) e
+  in-set : SignedInSet (call .rule) (call .key) (call .exponents) (call .masks) (call .message) (call .out) i
+  in-set = sign-entry (call .rule) (call .key) (call .exponents) (call .masks) (call .message) (call .out) e
 
   known : set < 5
   known = ltb-true set 5 (in-set .known .set .set)
 
-  behind : (r : Signed) × SignedAs drawChallenge (setOf set) (call .key) (call .exponents) (call .masks) (call .message) (call .out) r i
-  behind = accepted-signing drawChallenge (setOf set) (call .key) (call .exponents) (call .masks) (call .message) (call .out) (in-set .answer)
+  behind : (r : Signed) × SignedAs drawChallenge (call .rule) (setOf set) (call .key) (call .exponents) (call .masks) (call .message) (call .out) r i
+  behind = accepted-signing drawChallenge (call .rule) (setOf set) (call .key) (call .exponents) (call .masks) (call .message) (call .out) (in-set .answer)
 
   pub signature-below : T (areBelow 256 (ourLibrary .writes call))
   signature-below = rw (in-set .written ∙ signed-bytes (behind .1)) (signature-bytes-below set (behind .0 .signature) (omega (arith, known)))

@@ -43,10 +43,10 @@ module _ (m : Material) (t : TestedMasks (paramsIn m) (m .masks)) (s : TestedSet
   masks-read = masks-back p (omega (arith, fitting s .exponents)) (m .masks) (t .each)
 
   -- what the masks give, in the library and in the scheme
-  signed-read : signedBy drawChallenge (setOf (m .set .byte)) (keyOf (m .set .byte ∷ m .key)) (m .exponents) (flatten (m .masks)) (m .message)
-      ≡ signing drawChallenge p (m .exponents) (m .message) 0 (keyIn (m .key)) (m .masks)
+  signed-read : signedBy (drawChallenge (m .rule)) (setOf (m .set .byte)) (keyOf (m .set .byte ∷ m .key)) (m .exponents) (flatten (m .masks)) (m .message)
+      ≡ signing (drawChallenge (m .rule)) p (m .exponents) (m .message) 0 (keyIn (m .key)) (m .masks)
   unfolding signedBy keyOf
-  signed-read = rw (← s .own) (ap (signing drawChallenge p (m .exponents) (m .message) 0 (keyIn (m .key))) masks-read)
+  signed-read = rw (← s .own) (ap (signing (drawChallenge (m .rule)) p (m .exponents) (m .message) 0 (keyIn (m .key))) masks-read)
 
   -- an accepted signing is by the first of them that passes
   pub record SignedRead : Type 0 where
@@ -58,11 +58,11 @@ module _ (m : Material) (t : TestedMasks (paramsIn m) (m .masks)) (s : TestedSet
   accepted-read : answerWith m ≡ answer.Signed (firstPassing m) → SignedRead
   unfolding signAnswer signWritten
   accepted-read e =
-      let refusal = signRefusal (m .set .byte ∷ m .key) (m .exponents) (flatten (m .masks)) (m .message) (signatureRoom p) in
+      let refusal = signRefusal (m .rule) (m .set .byte ∷ m .key) (m .exponents) (flatten (m .masks)) (m .message) (signatureRoom p) in
       let (allowed, (r, (signs, place))) = accepted refusal _ e in
       record {
         signing = r;
-        first = first-passing drawChallenge p (m .exponents) (m .message) (keyIn (m .key)) (m .masks) r .0 (sym signed-read ∙ signs);
+        first = first-passing (drawChallenge (m .rule)) p (m .exponents) (m .message) (keyIn (m .key)) (m .masks) r .0 (sym signed-read ∙ signs);
         place = place;
         bytes = written-by refusal (m .set .byte) (signatureRoom p) allowed signs;
       }
@@ -71,7 +71,7 @@ module _ (m : Material) (t : TestedMasks (paramsIn m) (m .masks)) (s : TestedSet
   nine-read : answerWith m ≡ answer.Refused 9 → NoneOfRead m
   unfolding keyOf
   nine-read e j h =
-      let none = entry-none-signs (m .set .byte ∷ m .key) (m .exponents) (flatten (m .masks)) (m .message) (signatureRoom p) .0 e .1 in
+      let none = entry-none-signs (m .rule) (m .set .byte ∷ m .key) (m .exponents) (flatten (m .masks)) (m .message) (signatureRoom p) .0 e .1 in
       let count = masks-count p (flatten (m .masks)) in
       rw (← s .own, mask-of-flattened p (m .masks) j (t .each) h) at (none j (rw (← s .own) (omega (arith, count, ap length masks-read))))
 

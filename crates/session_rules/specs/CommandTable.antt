@@ -48,6 +48,7 @@ commandTable =
     ∷ entry 0x07 true (λ (p : Params). 2 * p .b + 2 * p .n) forChecking
     ∷ entry 0x08 true (λ (p : Params). 3 * p .t) forLoading
     ∷ entry 0x0A true (λ (p : Params). 2) forGranting
+    ∷ entry 0x0B false (λ (p : Params). 1) nothingNeeded
     ∷ []
 
 -- the first entry with byte b

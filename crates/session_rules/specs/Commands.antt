@@ -13,9 +13,10 @@ use Rattle.algebra.specs.Integer.{within}
 use Rattle.parameters.specs.declared.Params.{Params}
 use Rattle.parameters.specs.Sets.{isSet, setOf}
 use Rattle.polynomial.specs.Evaluation.{evaluations, evaluationResidues}
+use Rattle.challenge.specs.Pool.{isRule}
 use Rattle.encoding.specs.Bytes.{valueOf, numbers, signed16}
 use Rattle.encoding.specs.Encoding.{isKeyByte, keyCoefficient, areExponents, areEvaluations, publicKey, signatureSize}
-use Rattle.refusal.specs.Numbers.{wrongSet, noSet, wrongExponents, wrongKey, wrongMask, wrongEvaluation, tooManyMasks, nonePasses, notHeld, noneLeft}
+use Rattle.refusal.specs.Numbers.{wrongSet, noSet, wrongExponents, wrongKey, wrongMask, wrongEvaluation, tooManyMasks, nonePasses, notHeld, noneLeft, wrongRule}
 use Rattle.refusal.specs.declared.Signing.{Signing}
 use Rattle.refusal.specs.declared.Signing.the-variants as signing
 use Rattle.refusal.specs.declared.Verdict.{Verdict}
@@ -23,7 +24,7 @@ use Rattle.refusal.specs.declared.Verdict.the-variants as verdict
 use Rattle.signing.specs.Sign.{signAnswer, signWritten}
 use Rattle.checking.specs.Check.{checkAnswer}
 use Rattle.session_rules.specs.Held.{Chosen, HeldKey, firstGrant, Held, given, bytesOf, leftOf, onlySet}
-use Rattle.session_rules.specs.Held.{withExponents, withKey, withLeft, withEvaluations, withMasks, withMessage}
+use Rattle.session_rules.specs.Held.{withRule, withExponents, withKey, withLeft, withEvaluations, withMasks, withMessage}
 use Rattle.session_rules.specs.CommandTable.{commandOf}
 
 -- what an accepted command adds to its row: nothing; the evaluations in signed form (03); the number passed over and the signature (06); 1 or 0 (07)
@@ -46,11 +47,15 @@ accepted h x = record { number = 0; held = h; payload = x }
 abbrev pub refused : ℕ → Held → Result
 refused n h = record { number = n; held = h; payload = nothing }
 
--- 01: set, one byte. Forgets all else held
+-- 01: set, one byte. Forgets all else held; the rule stays in force
 unfoldable pub chooseSet : Held → List ℕ → Result
 chooseSet h op =
     cond (not (isSet (getD op 0 0))) (refused wrongSet h)
-    (accepted (onlySet (some (record { byte = getD op 0 0; params = setOf (getD op 0 0) }))) nothing)
+    (accepted (onlySet (h .rule) (some (record { byte = getD op 0 0; params = setOf (getD op 0 0) }))) nothing)
+
+-- 0B: rule of hashing, one byte. All that is held stays
+unfoldable pub chooseRule : Held → List ℕ → Result
+chooseRule h op = cond (not (isRule (getD op 0 0))) (refused wrongRule h) (accepted (withRule h (getD op 0 0)) nothing)
 
 -- the public evaluations of a key of N bytes at the points, and the same in 0..q-1
 abbrev pub keyEvaluations : Params → List ℕ → List ℕ → List ℤ
@@ -102,15 +107,16 @@ module _ (c : Chosen) (h : Held) where
   afterSigning (signing.Signed i) bytes = accepted (withLeft (withMasks h (drop (suc i) (h .masks))) (leftOf (h .key) - 1)) (signed i bytes)
   afterSigning (signing.Refused n) bytes = refused n (cond (eqb n nonePasses) (withMasks h []) h)
 
-  -- the call of the library, with the key in its encoding
-  abbrev pub callSigning : {A : Type 0} → (List ℕ → List ℕ → List ℤ → List ℕ → List ℕ → A) → A
-  callSigning f = f (c .byte ∷ bytesOf (h .key)) (given (h .exponents)) (flatten (h .masks)) (given (h .message)) (signatureRoom (c .params))
+  -- the call of the library under the rule in force, with the key in its encoding
+  abbrev pub callSigning : {A : Type 0} → (ℕ → List ℕ → List ℕ → List ℤ → List ℕ → List ℕ → A) → A
+  callSigning f =
+      f (h .rule) (c .byte ∷ bytesOf (h .key)) (given (h .exponents)) (flatten (h .masks)) (given (h .message)) (signatureRoom (c .params))
 
   -- 06: 17 where the key has no signature left, else the library's signing with what is held
   unfoldable pub sign : Result
   sign = cond (eqb (leftOf (h .key)) 0) (refused noneLeft h) (afterSigning (callSigning signAnswer) (callSigning signWritten))
 
-  -- 07: the library's check of a signature without its set byte
+  -- 07: the library's check under the rule in force of a signature without its set byte
   abbrev pub afterCheck : Verdict → Result
   afterCheck verdict.Yes = accepted h (judged 1)
   afterCheck verdict.No = accepted h (judged 0)
@@ -118,7 +124,7 @@ module _ (c : Chosen) (h : Held) where
 
   unfoldable pub check : List ℕ → Result
   check op =
-      afterCheck (checkAnswer (publicKey (c .byte) (given (h .exponents)) (given (h .evaluations))) (given (h .message)) (c .byte ∷ op))
+      afterCheck (checkAnswer (h .rule) (publicKey (c .byte) (given (h .exponents)) (given (h .evaluations))) (given (h .message)) (c .byte ∷ op))
 
   -- 08: public evaluations, three bytes each. Forgets the key
   unfoldable pub loadEvaluations : List ℕ → Result
@@ -143,9 +149,12 @@ commandIn c h b op =
     (cond (eqb b 0x08) (loadEvaluations c h op)
     (grant c h op))))))))
 
--- command b, other than 00, with its operand. Without a set only 01 comes here: `commandStep` refuses the others first, and ends the session
+-- command b, other than 00, with its operand. Without a set only 01 and 0B come here: `commandStep` refuses the others first, and ends the session
 unfoldable pub command : Held → ℕ → List ℕ → Result
-command h b op = cond (eqb b 0x01) (chooseSet h op) (inSet (h .set))
+command h b op =
+    cond (eqb b 0x01) (chooseSet h op)
+    (cond (eqb b 0x0B) (chooseRule h op)
+    (inSet (h .set)))
   where
     inSet : Option Chosen → Result
     inSet none = refused noSet h

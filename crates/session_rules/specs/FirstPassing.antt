@@ -16,15 +16,15 @@ use Rattle.session_rules.specs.Rows.{rowText}
 use Rattle.session_rules.specs.Plays.{Event, Material, paramsIn, withCommand}
 
 module _ (m : Material) where
-  -- r is the signing by the first of the masks read that passes: every mask before it fails
+  -- r is the signing, under the rule read, by the first of the masks read that passes: every mask before it fails
   abbrev pub FirstOfRead : Signed → Type 0
-  FirstOfRead r = scheme.FirstPassing drawChallenge (paramsIn m) (m .exponents) (m .message) (keyIn (m .key)) (m .masks) r
+  FirstOfRead r = scheme.FirstPassing (drawChallenge (m .rule)) (paramsIn m) (m .exponents) (m .message) (keyIn (m .key)) (m .masks) r
 
   -- none of the masks read passes
   abbrev pub NoneOfRead : Type 0
   NoneOfRead =
       (j : ℕ) → j < length (m .masks)
-      → attempt drawChallenge (paramsIn m) (m .exponents) (m .message) (keyIn (m .key)) (getD (m .masks) j []) ≡ none
+      → attempt (drawChallenge (m .rule)) (paramsIn m) (m .exponents) (m .message) (keyIn (m .key)) (getD (m .masks) j []) ≡ none
 
   -- an accepted 06: the first mask that passes signs, the row prints the number passed over and its signature, and the masks up to and with it are gone
   -- from what the next 06 signs with

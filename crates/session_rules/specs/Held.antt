@@ -27,8 +27,9 @@ pub record HeldKey : Type 0 where
 abbrev pub firstGrant : ℕ
 firstGrant = 65535
 
--- masks are held in the order in which they came
+-- the rule of hashing in force, and what is held: masks in the order in which they came
 pub record Held : Type 0 where
+  pub rule : ℕ
   pub set : Option Chosen
   pub exponents : Option (List ℕ)
   pub key : Option HeldKey
@@ -59,32 +60,36 @@ abbrev pub leaving : ℕ → Option HeldKey → Option HeldKey
 leaving n none = none
 leaving n (some k) = some (record { bytes = k .bytes; left = n })
 
--- nothing but a set, or nothing at all
-abbrev pub onlySet : Option Chosen → Held
-onlySet c = record { set = c; exponents = none; key = none; evaluations = none; masks = []; message = none }
+-- nothing but a set, or nothing at all, under a rule
+abbrev pub onlySet : ℕ → Option Chosen → Held
+onlySet rule c = record { rule = rule; set = c; exponents = none; key = none; evaluations = none; masks = []; message = none }
 
 -- ---- one setter for each
 
 module _ (h : Held) where
+  abbrev pub withRule : ℕ → Held
+  withRule rule =
+      record { rule = rule; set = h .set; exponents = h .exponents; key = h .key; evaluations = h .evaluations; masks = h .masks; message = h .message }
+
   abbrev pub withExponents : Option (List ℕ) → Held
   withExponents js =
-      record { set = h .set; exponents = js; key = h .key; evaluations = h .evaluations; masks = h .masks; message = h .message }
+      record { rule = h .rule; set = h .set; exponents = js; key = h .key; evaluations = h .evaluations; masks = h .masks; message = h .message }
 
   abbrev pub withKey : Option HeldKey → Held
   withKey key =
-      record { set = h .set; exponents = h .exponents; key = key; evaluations = h .evaluations; masks = h .masks; message = h .message }
+      record { rule = h .rule; set = h .set; exponents = h .exponents; key = key; evaluations = h .evaluations; masks = h .masks; message = h .message }
 
   abbrev pub withLeft : ℕ → Held
   withLeft n = withKey (leaving n (h .key))
 
   abbrev pub withEvaluations : Option (List ℕ) → Held
   withEvaluations vs =
-      record { set = h .set; exponents = h .exponents; key = h .key; evaluations = vs; masks = h .masks; message = h .message }
+      record { rule = h .rule; set = h .set; exponents = h .exponents; key = h .key; evaluations = vs; masks = h .masks; message = h .message }
 
   abbrev pub withMasks : List (List ℤ) → Held
   withMasks ys =
-      record { set = h .set; exponents = h .exponents; key = h .key; evaluations = h .evaluations; masks = ys; message = h .message }
+      record { rule = h .rule; set = h .set; exponents = h .exponents; key = h .key; evaluations = h .evaluations; masks = ys; message = h .message }
 
   abbrev pub withMessage : Option (List ℕ) → Held
   withMessage message =
-      record { set = h .set; exponents = h .exponents; key = h .key; evaluations = h .evaluations; masks = h .masks; message = message }
+      record { rule = h .rule; set = h .set; exponents = h .exponents; key = h .key; evaluations = h .evaluations; masks = h .masks; message = message }

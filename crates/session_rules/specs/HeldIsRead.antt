@@ -96,8 +96,9 @@ pub data Holding {A : Type 0} (P : A → Type 0) : Bool → Option A → Type 0 
 abbrev pub keyRead : Material → Available → HeldKey
 keyRead m a = record { bytes = m .key; left = a .left }
 
--- what is held is what is read
+-- what is held is what is read, and so is the rule in force
 pub record HeldIsRead (m : Material) (a : Available) (h : Held) : Type 0 where
+  pub rule : h .rule ≡ m .rule
   pub set : Holding (λ (c : Chosen). c ≡ m .set) (a .set) (h .set)
   pub exponents : Holding (λ (l : List ℕ). l ≡ m .exponents) (a .exponents) (h .exponents)
   pub key : Holding (λ (k : HeldKey). k ≡ keyRead m a) (a .key) (h .key)

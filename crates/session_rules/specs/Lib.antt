@@ -13,6 +13,7 @@ pub mod Refusals
 pub mod FirstPassing
 pub mod PrintedRows
 pub mod Verdicts
+pub mod RuleInForce
 pub mod PrintedEvaluations
 pub mod FilePlayed
 pub mod KeyLife

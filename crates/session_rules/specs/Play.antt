@@ -6,6 +6,7 @@ use mathlib.Core.Option.{Option, none, some}
 use Prim.Native.Nat.{ℕ, _+_}
 use lib.Dec.{ltb, leb, eqb}
 use lib.ListN.{length, getD, take, drop}
+use Rattle.challenge.specs.Pool.{lowByteRule}
 use Rattle.refusal.specs.Numbers.{wrongLength, noSet, fileEnds, unknownCommand, wrongTag, bytesAfterEnd}
 use Rattle.session_rules.specs.Held.{Chosen, paramsOf, isHeld, Held, onlySet}
 use Rattle.session_rules.specs.CommandTable.{isKnown, commandOf}
@@ -19,9 +20,9 @@ pub record Session : Type 0 where
   pub rows : ℕ
   pub held : Held
 
--- a session just opened
+-- a session just opened: nothing is held, and rule 1 is in force
 unfoldable pub opened : Session
-opened = record { ended = false; place = 0; rows = 0; held = onlySet none }
+opened = record { ended = false; place = 0; rows = 0; held = onlySet lowByteRule none }
 
 -- what a play of a session that has not ended gives: the session after it, and the row's fields with the operand that was read
 pub record Step : Type 0 where

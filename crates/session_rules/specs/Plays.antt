@@ -10,6 +10,7 @@ use lib.IntN.{ℤ}
 use lib.ListN.{length, getD, drop}
 use Rattle.parameters.specs.declared.Params.{Params}
 use Rattle.parameters.specs.Sets.{setOf}
+use Rattle.challenge.specs.Pool.{lowByteRule}
 use Rattle.encoding.specs.Bytes.{numbers}
 use Rattle.refusal.specs.declared.Signing.{Signing}
 use Rattle.refusal.specs.declared.Signing.the-variants as signing
@@ -66,9 +67,10 @@ printedSignature buffer = unhex (afterSpace (afterSpace (afterSpace (afterSpace 
 
 -- ---- what a 06 signs with, read from the commands
 
--- the set of the last accepted 01 with its numbers, the operands of the last accepted 02, 03 and 05, and the masks of each accepted 04 since that 01 less
--- those dropped
+-- the rule of the last accepted 0B, 1 before any; the set of the last accepted 01 with its numbers, the operands of the last accepted 02, 03 and 05, and the
+-- masks of each accepted 04 since that 01 less those dropped
 pub record Material : Type 0 where
+  pub rule : ℕ
   pub set : Chosen
   pub exponents : List ℕ
   pub key : List ℕ
@@ -77,7 +79,7 @@ pub record Material : Type 0 where
 
 -- before any command
 unfoldable pub noMaterial : Material
-noMaterial = record { set = record { byte = 0; params = paramsOf none }; exponents = []; key = []; message = []; masks = [] }
+noMaterial = record { rule = lowByteRule; set = record { byte = 0; params = paramsOf none }; exponents = []; key = []; message = []; masks = [] }
 
 -- the number of masks passed over before the first that passes; all where none does
 abbrev pub passedOver : List (List ℤ) → Signing → ℕ
@@ -86,20 +88,23 @@ passedOver ys (signing.Refused n) = length ys
 
 module _ (m : Material) where
   -- one setter for each
+  abbrev pub readRule : ℕ → Material
+  readRule rule = record { rule = rule; set = m .set; exponents = m .exponents; key = m .key; message = m .message; masks = m .masks }
+
   abbrev pub readSet : Chosen → Material
-  readSet c = record { set = c; exponents = m .exponents; key = m .key; message = m .message; masks = m .masks }
+  readSet c = record { rule = m .rule; set = c; exponents = m .exponents; key = m .key; message = m .message; masks = m .masks }
 
   abbrev pub readExponents : List ℕ → Material
-  readExponents js = record { set = m .set; exponents = js; key = m .key; message = m .message; masks = m .masks }
+  readExponents js = record { rule = m .rule; set = m .set; exponents = js; key = m .key; message = m .message; masks = m .masks }
 
   abbrev pub readKey : List ℕ → Material
-  readKey key = record { set = m .set; exponents = m .exponents; key = key; message = m .message; masks = m .masks }
+  readKey key = record { rule = m .rule; set = m .set; exponents = m .exponents; key = key; message = m .message; masks = m .masks }
 
   abbrev pub readMessage : List ℕ → Material
-  readMessage message = record { set = m .set; exponents = m .exponents; key = m .key; message = message; masks = m .masks }
+  readMessage message = record { rule = m .rule; set = m .set; exponents = m .exponents; key = m .key; message = message; masks = m .masks }
 
   abbrev pub readMasks : List (List ℤ) → Material
-  readMasks ys = record { set = m .set; exponents = m .exponents; key = m .key; message = m .message; masks = ys }
+  readMasks ys = record { rule = m .rule; set = m .set; exponents = m .exponents; key = m .key; message = m .message; masks = ys }
 
   abbrev pub paramsIn : Params
   paramsIn = m .set .params
@@ -108,6 +113,7 @@ module _ (m : Material) where
   abbrev pub callWith : Call
   callWith =
       record {
+        rule = m .rule;
         key = m .set .byte ∷ m .key;
         exponents = m .exponents;
         masks = flatten (m .masks);
@@ -136,7 +142,8 @@ withAccepted m b op =
     (cond (eqb b 0x04) (readMasks m (m .masks ++ (maskOf (paramsIn m) op ∷ [])))
     (cond (eqb b 0x05) (readMessage m op)
     (cond (eqb b 0x06) (readMasks m (drop (suc (firstPassing m)) (m .masks)))
-    m)))))
+    (cond (eqb b 0x0B) (readRule m (getD op 0 0))
+    m))))))
 
 -- one more command: accepted; refused with 9, which only a 06 is, and which drops all masks; refused otherwise
 unfoldable pub withCommand : Material → Event → Material

@@ -12,9 +12,9 @@ use Rattle.session_rules.specs.HeldIsRead.{Available}
 use Rattle.session_rules.specs.PrintedRows.{EachPrints}
 
 module _ (m : Material) (a : Available) where
-  -- the paper's rule on the signature that an operand means, with the points, the message and the public evaluations read
+  -- the paper's rule on the signature that an operand means, with the rule of hashing, the points, the message and the public evaluations read
   abbrev pub holdsOf : List ℕ → Bool
-  holdsOf op = verdict drawChallenge (paramsIn m) (m .exponents) (m .message) (a .values) (bodyRead (paramsIn m) op)
+  holdsOf op = verdict (drawChallenge (m .rule)) (paramsIn m) (m .exponents) (m .message) (a .values) (bodyRead (paramsIn m) op)
 
   -- what an accepted 07 adds: 1 where the rule holds, else 0
   abbrev pub verdictPrinted : List ℕ → Payload

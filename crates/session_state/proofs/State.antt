@@ -42,6 +42,11 @@ pub room : (count n : ℕ) → count ≤ 8 → n ≤ 1153 → count * n ≤ 9224
 room count n h k = mul-le-mul h k
 
 module _ (flags : Flags) (e k v : List ℕ) (m : List ℤ) (t : List ℕ) where
+  -- the rule in force, with a set and without
+  pub heldOf-rule : heldOf flags e k v m t .rule ≡ flags .rule
+  unfolding heldOf heldIn
+  heldOf-rule = by-test (isSet (flags .set)) (λ z. rw z) (λ z. rw z)
+
   -- the set in force is the one that the byte means
   pub heldOf-set : heldOf flags e k v m t .set ≡ setHeld (flags .set)
   unfolding heldOf heldIn

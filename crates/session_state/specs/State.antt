@@ -50,6 +50,7 @@ masksHeld n count ys = parts n (atMostEight count) ys
 unfoldable pub heldIn : Params → Flags → List ℕ → List ℕ → List ℕ → List ℤ → List ℕ → Held
 heldIn p flags e k v m t =
     record {
+      rule = flags .rule;
       set = some (chosenIn p (flags .set));
       exponents = whenHeld (hasExponents p (flags .exponents) e) (take (p .t) e);
       key = whenHeld (flags .key) (keyHeld (p .n) k (flags .left));
@@ -60,4 +61,4 @@ heldIn p flags e k v m t =
 
 -- what is held
 unfoldable pub heldOf : Flags → List ℕ → List ℕ → List ℕ → List ℤ → List ℕ → Held
-heldOf flags e k v m t = cond (isSet (flags .set)) (heldIn (setOf (flags .set)) flags e k v m t) (onlySet none)
+heldOf flags e k v m t = cond (isSet (flags .set)) (heldIn (setOf (flags .set)) flags e k v m t) (onlySet (flags .rule) none)

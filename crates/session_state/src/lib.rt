@@ -17,12 +17,13 @@ pub const MAX_SIGNATURE: usize = 2435;
 // The signatures that a key may give when it is loaded.
 pub const FIRST_GRANT: u16 = 65535;
 
-// Whether the session has ended, its place in the file and its row count; the set byte, which things are held, how many masks, and how many signatures are
-// left to the key.
+// Whether the session has ended, its place in the file and its row count; the rule of hashing in force, the set byte, which things are held, how many masks,
+// and how many signatures are left to the key.
 pub struct Flags {
     pub ended: bool,
     pub place: usize,
     pub rows: usize,
+    pub rule: u8,
     pub set: u8,
     pub exponents: bool,
     pub key: bool,

@@ -10,26 +10,28 @@ use lib.IntN.{ℤ}
 use lib.ListN.{length}
 use Rattle.algebra.specs.Integer.{within}
 use Rattle.parameters.specs.declared.Params.{Params}
+use Rattle.challenge.specs.Pool.{isRule}
 use Rattle.encoding.specs.Encoding.{secretKeySize, signatureSize, isKey, areExponents}
 use Rattle.signing.specs.Sign.{areMasks, signLengths, signRefusalIn}
 use Rattle.refusal.proofs.Refusal.{step, end, equal-iff}
 
-module _ (p : Params) (key exponents : List ℕ) (masks : List ℤ) (room : ℕ) where
+module _ (rule : ℕ) (p : Params) (key exponents : List ℕ) (masks : List ℤ) (room : ℕ) where
   -- a signing is not refused before its masks are tried
   pub record SignAllowed : Type 0 where
     pub key-size : length key ≡ secretKeySize p
     pub exponents-size : length exponents ≡ p .t
     pub masks-size : areMasks p masks ≡ true
     pub room-size : room ≡ signatureSize p
+    pub rule-known : isRule rule ≡ true
     pub exponents-rise : areExponents p exponents ≡ true
     pub ternary : isKey key ≡ true
     pub small : within (p .k) masks ≡ true
 
-  pub sign-allowed : (signRefusalIn p key exponents masks room ≡ 0) ↔ SignAllowed
+  pub sign-allowed : (signRefusalIn rule p key exponents masks room ≡ 0) ↔ SignAllowed
   unfolding signRefusalIn
   sign-allowed =
       let tests = step (signLengths p (length key) (length exponents) (length masks) room) 0
-      (step (areExponents p exponents) 3 (step (isKey key) 4 (step (within (p .k) masks) 5 end))) in
+      (step (isRule rule) 17 (step (areExponents p exponents) 3 (step (isKey key) 4 (step (within (p .k) masks) 5 end)))) in
       let sizes = and-eq-true-iff (eqb (length key) (secretKeySize p)) (eqb (length exponents) (p .t) && (areMasks p masks && eqb room (signatureSize p))) in
       let others = and-eq-true-iff (eqb (length exponents) (p .t)) (areMasks p masks && eqb room (signatureSize p)) in
       let last = and-eq-true-iff (areMasks p masks) (eqb room (signatureSize p)) in (
@@ -43,12 +45,13 @@ module _ (p : Params) (key exponents : List ℕ) (masks : List ℤ) (room : ℕ)
               exponents-size = equal-iff .0 (m .0);
               masks-size = n .0;
               room-size = equal-iff .0 (n .1);
-              exponents-rise = h .1 .0;
-              ternary = h .1 .1 .0;
-              small = h .1 .1 .1 .0;
+              rule-known = h .1 .0;
+              exponents-rise = h .1 .1 .0;
+              ternary = h .1 .1 .1 .0;
+              small = h .1 .1 .1 .1 .0;
             },
         λ a. tests .1 (
           sizes .1 (equal-iff .1 (a .key-size), others .1 (equal-iff .1 (a .exponents-size), last .1 (a .masks-size, equal-iff .1 (a .room-size)))),
-          (a .exponents-rise, (a .ternary, (a .small, tt))),
+          (a .rule-known, (a .exponents-rise, (a .ternary, (a .small, tt)))),
         ),
       )

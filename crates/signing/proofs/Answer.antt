@@ -30,20 +30,20 @@ module _ {s : ℕ} {a : Option Signature} {before : List ℕ} where
   attempted-as e t = rw e t
 
 -- the drawer's answer d for the commitment w of the mask y
-module _ (p : Params) (exponents message : List ℕ) (f y : List ℤ) (d : Drawn) {w : List ℕ}
-    (e : drawnOf p d ≡ drawChallenge p w message) (g : w ≡ evaluationResidues p y exponents) where
-  answer : {t : Bool} → d .complete ≡ t → drawChallenge p (evaluationResidues p y exponents) message ≡ cond t (some (take (p .n) (d .challenge))) none
+module _ (rule : ℕ) (p : Params) (exponents message : List ℕ) (f y : List ℤ) (d : Drawn) {w : List ℕ}
+    (e : drawnOf p d ≡ drawChallenge rule p w message) (g : w ≡ evaluationResidues p y exponents) where
+  answer : {t : Bool} → d .complete ≡ t → drawChallenge rule p (evaluationResidues p y exponents) message ≡ cond t (some (take (p .n) (d .challenge))) none
   answer c =
-      ap (λ (v : List ℕ). drawChallenge p v message) (sym g) ∙ sym e
+      ap (λ (v : List ℕ). drawChallenge rule p v message) (sym g) ∙ sym e
       ∙ ap (λ (b : Bool). cond b (some (take (p .n) (d .challenge))) none) c
 
   pub attempt-is : {t : Bool} → d .complete ≡ t
-      → attempt drawChallenge p exponents message f y ≡ withChallenge p f y (cond t (some (take (p .n) (d .challenge))) none)
+      → attempt (drawChallenge rule) p exponents message f y ≡ withChallenge p f y (cond t (some (take (p .n) (d .challenge))) none)
   unfolding attempt
   attempt-is c = ap (withChallenge p f y) (answer c)
 
   pub drawn-sparse : d .complete ≡ true → Sparse p (take (p .n) (d .challenge))
-  drawn-sparse c = challenge-sparse p (evaluationResidues p y exponents) message (take (p .n) (d .challenge)) (answer c)
+  drawn-sparse c = challenge-sparse rule p (evaluationResidues p y exponents) message (take (p .n) (d .challenge)) (answer c)
 
 -- the point z of a challenge c, in range or not
 pub in-range-is : (p : Params) (f y c : List ℤ) {z : List ℤ} {t : Bool} → z ≡ zOf f c y → t ≡ within (p .k - p .b) z

@@ -21,31 +21,31 @@ pub record Known (key message : List ℕ) : Type 0 where
   pub short : isLong message ≡ false
   pub set : HasSet key
 
-module _ (key exponents : List ℕ) (masks : List ℤ) (message out : List ℕ) where
+module _ (rule : ℕ) (key exponents : List ℕ) (masks : List ℤ) (message out : List ℕ) where
   -- what the set decides
   abbrev refusal : Params → ℕ
-  refusal p = signRefusalIn p key exponents masks (length out)
+  refusal p = signRefusalIn rule p key exponents masks (length out)
 
-  pub known-iff : (signRefusal key exponents masks message out ≡ 0) ↔ (Known key message × (signRefusalIn (setIn key) key exponents masks (length out) ≡ 0))
+  pub known-iff : (signRefusal rule key exponents masks message out ≡ 0) ↔ (Known key message × (signRefusalIn rule (setIn key) key exponents masks (length out) ≡ 0))
   unfolding signRefusal
   known-iff =
       let tests = passed (isLong message) {a = wrongLength} (λ e. omega arith) (in-a-set-iff key refusal) in
       (λ e. let h = tests .0 e in (record { short = h .0; set = h .1 .0 }, h .1 .1), λ h. tests .1 (h .0 .short, (h .0 .set, h .1)))
 
   -- a key with no set
-  pub set-refused : isLong message ≡ false → (setRefusal key ≡ 0 → ⊥) → signRefusal key exponents masks message out ≡ setRefusal key
+  pub set-refused : isLong message ≡ false → (setRefusal key ≡ 0 → ⊥) → signRefusal rule key exponents masks message out ≡ setRefusal key
   unfolding signRefusal
   set-refused short h = rw short (no-set key refusal h)
 
   module _ (k : Known key message) where
-    known-refusal : signRefusal key exponents masks message out ≡ signRefusalIn (setIn key) key exponents masks (length out)
+    known-refusal : signRefusal rule key exponents masks message out ≡ signRefusalIn rule (setIn key) key exponents masks (length out)
     unfolding signRefusal
     known-refusal = rw (k .short) (in-a-set key refusal (k .set))
 
-    pub answer-entry : signAnswer key exponents masks message out ≡ signAnswerIn drawChallenge (setIn key) key exponents masks message out
+    pub answer-entry : signAnswer rule key exponents masks message out ≡ signAnswerIn drawChallenge rule (setIn key) key exponents masks message out
     unfolding signAnswer signAnswerIn
     answer-entry = rw known-refusal
 
-    pub written-entry : signWritten key exponents masks message out ≡ signWrittenIn drawChallenge (setIn key) key exponents masks message out
+    pub written-entry : signWritten rule key exponents masks message out ≡ signWrittenIn drawChallenge rule (setIn key) key exponents masks message out
     unfolding signWritten signWrittenIn
     written-entry = rw known-refusal

@@ -23,11 +23,11 @@ states-after true n none = refl
 states-after true n (some r) = refl
 states-after false n o = refl
 
-module _ (key exponents : List ℕ) (masks : List ℤ) (message out : List ℕ) where
+module _ (rule : ℕ) (key exponents : List ℕ) (masks : List ℤ) (message out : List ℕ) where
   -- so a call that answers as defined, and writes as W says, states it
-  pub stating : {r : Signing} {W : Type 0} → (r ≡ signAnswer key exponents masks message out) × W
-      → (r ≡ signAnswer key exponents masks message out) × ((signingStates r ≡ signStated key exponents masks message out) × W)
+  pub stating : {r : Signing} {W : Type 0} → (r ≡ signAnswer rule key exponents masks message out) × W
+      → (r ≡ signAnswer rule key exponents masks message out) × ((signingStates r ≡ signStated rule key exponents masks message out) × W)
   unfolding signAnswer signStated
   stating (e, w) =
-      let n = signRefusal key exponents masks message out in
-      (e, (ap signingStates e ∙ states-after (eqb n 0) n (signedBy drawChallenge (setIn key) (keyOf key) exponents masks message), w))
+      let n = signRefusal rule key exponents masks message out in
+      (e, (ap signingStates e ∙ states-after (eqb n 0) n (signedBy (drawChallenge rule) (setIn key) (keyOf key) exponents masks message), w))

@@ -17,6 +17,7 @@ ghost use Rattle.scheme.specs.Scheme.{attempt, signatureInRange};
 ghost use Rattle.signing.specs.Asks.{TernaryKey, Points, Writable};
 ghost use Rattle.signing.specs.Signer.{offeredCount, signedBy, Offered, Attempted};
 use challenge::challenge_of;
+use challenge::is_rule;
 use encoding::numbers::are_exponents;
 use encoding::numbers::narrow;
 use encoding::secret_key::are_key_bytes;
@@ -40,6 +41,7 @@ use refusal::WRONG_EXPONENTS;
 use refusal::WRONG_KEY;
 use refusal::WRONG_LENGTH;
 use refusal::WRONG_MASK;
+use refusal::WRONG_RULE;
 use refusal::set_refusal;
 use refusal::unless;
 use split::points::evaluate_residues;
@@ -88,17 +90,18 @@ fn sign_with_mask(
     y: &[i16],
     message: &[u8],
     out: &mut [u8],
+    rule: u8,
 ) -> bool
     requires { ⌜ Usable p (now powers) × TernaryKey p (now f) × Points p (now exponents) × SplitTable p (now split) ⌝ }
     requires { ⌜ (length (now y) ≡ p .n) × (length (now out) ≡ signatureSize p) ⌝ }
-    ensures { λ r. ⌜ Attempted set (attempt drawChallenge p (now (exponents .entry)) (now (message .entry)) (now (f .entry)) (now (y .entry)))
+    ensures { λ r. ⌜ Attempted set (attempt (drawChallenge rule) p (now (exponents .entry)) (now (message .entry)) (now (f .entry)) (now (y .entry)))
         (now (out .entry)) r (now (out .exit)) ⌝ }
 {
     let n = p.n;
     let t = p.t;
     let mut commitment = [0u32; MAX_T];
     evaluate_residues(p, powers, split, y, exponents, &mut commitment[..t]);
-    let drawn = challenge_of(p, &commitment[..t], message);
+    let drawn = challenge_of(p, &commitment[..t], message, rule);
     if !drawn.complete {
         return false;
     }
@@ -118,11 +121,12 @@ fn sign_first(
     masks: &[i16],
     message: &[u8],
     out: &mut [u8],
+    rule: u8,
 ) -> usize
     requires { ⌜ Usable p (now powers) × TernaryKey p (now f) × Points p (now exponents) × SplitTable p (now split) ⌝ }
     requires { ⌜ length (now out) ≡ signatureSize p ⌝ }
     ensures { λ r. ⌜ Offered set (offeredCount p (now (masks .entry)))
-        (signedBy drawChallenge p (now (f .entry)) (now (exponents .entry)) (now (masks .entry)) (now (message .entry)))
+        (signedBy (drawChallenge rule) p (now (f .entry)) (now (exponents .entry)) (now (masks .entry)) (now (message .entry)))
         (now (out .entry)) r (now (out .exit)) ⌝ }
 {
     let n = p.n;
@@ -141,6 +145,7 @@ fn sign_first(
             &masks[at..to],
             message,
             out,
+            rule,
         ) {
             return i;
         }
@@ -166,17 +171,25 @@ fn has_sign_lengths(p: Params, key: usize, exponents: usize, masks: usize, room:
         & ((exponents == p.t) & (are_masks(p, masks) & (room == signature_size(p))))
 }
 
-// The refusal for lengths, exponents, key and masks, or 0; the key without its set byte, which decides nothing here.
-fn sign_refusal(p: Params, key: &[u8], exponents: &[u16], masks: &[i16], room: usize) -> u32
+// The refusal for lengths, rule, exponents, key and masks, or 0; the key without its set byte, which decides nothing here.
+fn sign_refusal(
+    p: Params,
+    key: &[u8],
+    exponents: &[u16],
+    masks: &[i16],
+    room: usize,
+    rule: u8,
+) -> u32
     requires { ⌜ Fitting p ⌝ }
-    ensures { λ r. ⌜ r ≡ signRefusalIn p (0 ∷ now (key .entry)) (now (exponents .entry)) (now (masks .entry)) room ⌝ }
+    ensures { λ r. ⌜ r ≡ signRefusalIn rule p (0 ∷ now (key .entry)) (now (exponents .entry)) (now (masks .entry)) room ⌝ }
 {
     if !has_sign_lengths(p, 1 + key.len(), exponents.len(), masks.len(), room) {
         return WRONG_LENGTH;
     }
     let of_masks = unless(in_range16(masks, p.k), WRONG_MASK, 0);
     let of_key = unless(are_key_bytes(key), WRONG_KEY, of_masks);
-    unless(are_exponents(exponents, p.n), WRONG_EXPONENTS, of_key)
+    let of_exponents = unless(are_exponents(exponents, p.n), WRONG_EXPONENTS, of_key);
+    unless(is_rule(rule), WRONG_RULE, of_exponents)
 }
 
 // Signs in a set with a key without its set byte.
@@ -190,14 +203,15 @@ fn sign_in(
     masks: &[i16],
     message: &[u8],
     out: &mut [u8],
+    rule: u8,
 ) -> Signing
     requires { ⌜ Usable p (now powers) × SplitTable p (now split) ⌝ }
-    ensures answer { λ r. ⌜ r ≡ signAnswerIn drawChallenge p (set ∷ now (key .entry)) (now (exponents .entry))
+    ensures answer { λ r. ⌜ r ≡ signAnswerIn drawChallenge rule p (set ∷ now (key .entry)) (now (exponents .entry))
         (now (masks .entry)) (now (message .entry)) (now (out .entry)) ⌝ }
-    ensures written { λ _. ⌜ now (out .exit) ≡ signWrittenIn drawChallenge p (set ∷ now (key .entry)) (now (exponents .entry))
+    ensures written { λ _. ⌜ now (out .exit) ≡ signWrittenIn drawChallenge rule p (set ∷ now (key .entry)) (now (exponents .entry))
         (now (masks .entry)) (now (message .entry)) (now (out .entry)) ⌝ }
 {
-    let refusal = sign_refusal(p, key, exponents, masks, out.len());
+    let refusal = sign_refusal(p, key, exponents, masks, out.len(), rule);
     if refusal != 0 {
         return Signing::Refused(refusal);
     }
@@ -213,6 +227,7 @@ fn sign_in(
         masks,
         message,
         out,
+        rule,
     );
     if passed < masks.len() / n {
         let number = passed as u8;
@@ -230,11 +245,12 @@ pub fn sign_in_set(
     masks: &[i16],
     message: &[u8],
     out: &mut [u8],
+    rule: u8,
 ) -> Signing
     requires { ⌜ isSet set ≡ true ⌝ }
-    ensures answer { λ r. ⌜ r ≡ signAnswerIn drawChallenge (setOf set) (set ∷ now (key .entry)) (now (exponents .entry))
+    ensures answer { λ r. ⌜ r ≡ signAnswerIn drawChallenge rule (setOf set) (set ∷ now (key .entry)) (now (exponents .entry))
         (now (masks .entry)) (now (message .entry)) (now (out .entry)) ⌝ }
-    ensures written { λ _. ⌜ now (out .exit) ≡ signWrittenIn drawChallenge (setOf set) (set ∷ now (key .entry)) (now (exponents .entry))
+    ensures written { λ _. ⌜ now (out .exit) ≡ signWrittenIn drawChallenge rule (setOf set) (set ∷ now (key .entry)) (now (exponents .entry))
         (now (masks .entry)) (now (message .entry)) (now (out .entry)) ⌝ }
 {
     let mut powers = [0u32; MAX_N];
@@ -251,22 +267,24 @@ pub fn sign_in_set(
         masks,
         message,
         out,
+        rule,
     )
 }
 
-// Signs a message with the first of the masks that passes, N numbers each, one after the other. Refuses with 1, 2, 1, 4, 5, 6, 9.
+// Signs a message under a rule of hashing with the first of the masks that passes, N numbers each, one after the other. Refuses with 1, 2, 1, 18, 4, 5, 6, 9.
 pub fn sign(
     secret_key: &[u8],
     exponents: &[u16],
     masks: &[i16],
     message: &[u8],
     out: &mut [u8],
+    rule: u8,
 ) -> Signing
-    ensures answer { λ r. ⌜ r ≡ signAnswer (now («secret_key» .entry)) (now (exponents .entry)) (now (masks .entry))
+    ensures answer { λ r. ⌜ r ≡ signAnswer rule (now («secret_key» .entry)) (now (exponents .entry)) (now (masks .entry))
         (now (message .entry)) (now (out .entry)) ⌝ }
-    ensures number { λ r. ⌜ signingStates r ≡ signStated (now («secret_key» .entry)) (now (exponents .entry)) (now (masks .entry))
+    ensures number { λ r. ⌜ signingStates r ≡ signStated rule (now («secret_key» .entry)) (now (exponents .entry)) (now (masks .entry))
         (now (message .entry)) (now (out .entry)) ⌝ }
-    ensures written { λ _. ⌜ now (out .exit) ≡ signWritten (now («secret_key» .entry)) (now (exponents .entry)) (now (masks .entry))
+    ensures written { λ _. ⌜ now (out .exit) ≡ signWritten rule (now («secret_key» .entry)) (now (exponents .entry)) (now (masks .entry))
         (now (message .entry)) (now (out .entry)) ⌝ }
 {
     if MAX_MESSAGE < message.len() {
@@ -277,5 +295,5 @@ pub fn sign(
         return Signing::Refused(refusal);
     }
     let set = secret_key[0];
-    sign_in_set(set, &secret_key[1..], exponents, masks, message, out)
+    sign_in_set(set, &secret_key[1..], exponents, masks, message, out, rule)
 }

@@ -4,6 +4,7 @@
 use mathlib.Core.Path.{_≡_, refl}
 use Rattle.parameters.specs.Sets.{sets, setOf}
 use Rattle.polynomial.specs.Evaluation.{evaluation, evaluationResidue, evaluations, evaluationResidues}
+use Rattle.challenge.specs.Pool.{lowByteRule}
 use Rattle.encoding.specs.Encoding.{keyOf, publicKey}
 use Rattle.refusal.specs.declared.Signing.the-variants as signing
 use Rattle.refusal.specs.declared.Verdict.the-variants as answer
@@ -13,10 +14,10 @@ use Rattle.worked_session.specs.WorkedSession.{key, exponents, signedVal
 use Rattle.worked_session.proofs.Calls.{signs, writes, says-yes}
 
 pub accepted-signing :
-    (signAnswer key exponents masks message room ≡ signing.Signed 1)
-    × ((signWritten key exponents masks message room ≡ signature)
+    (signAnswer lowByteRule key exponents masks message room ≡ signing.Signed 1)
+    × ((signWritten lowByteRule key exponents masks message room ≡ signature)
     × ((evaluations (setOf 0) (keyOf key) exponents ≡ signedValues)
     × ((evaluationResidues (setOf 0) (keyOf key) exponents ≡ values)
-    × (checkAnswer (publicKey 0 exponents values) message signature ≡ answer.Yes))))
+    × (checkAnswer lowByteRule (publicKey 0 exponents values) message signature ≡ answer.Yes))))
 unfolding key exponents signedValues values keyOf setOf sets evaluations evaluation evaluationResidues evaluationResidue
 accepted-signing = (signs, (writes, (refl, (refl, says-yes))))

@@ -7,6 +7,7 @@ use lib.IntN.{pos, negsuc}
 use lib.ListN.{drop}
 use Rattle.parameters.specs.Sets.{sets, setOf}
 use Rattle.polynomial.specs.Evaluation.{evaluation, evaluationResidue, evaluations, evaluationResidues}
+use Rattle.challenge.specs.Pool.{lowByteRule}
 use Rattle.challenge.specs.Draw.{drawChallenge}
 use Rattle.encoding.specs.Bytes.{bigEndian, numbers, encoded}
 use Rattle.encoding.specs.Encoding.{isKey, keyOf, publicKey, signatureBytes, exponentsOf, evaluationsOf}
@@ -20,21 +21,21 @@ use Rattle.worked_session.specs.WorkedSession.{key, exponents, values, m
 use Rattle.worked_session.proofs.Draws.{first-drawn, second-drawn}
 
 -- the first mask gives a z out of range, the second passes
-by-second : signedBy drawChallenge (setOf 0) (keyOf key) exponents masks message
+by-second : signedBy (drawChallenge lowByteRule) (setOf 0) (keyOf key) exponents masks message
     ≡ some (record { passedOver = 1; commitment = negsuc 12 ∷ pos 3 ∷ []; signature = bodyRead (setOf 0) (drop 1 signature) })
 unfolding signedBy attempt key exponents masks keyOf setOf sets evaluations evaluation evaluationResidues evaluationResidue bodyRead signature numbers
 by-second = rw (first-drawn, second-drawn)
 
-pub signs : signAnswer key exponents masks message room ≡ signing.Signed 1
+pub signs : signAnswer lowByteRule key exponents masks message room ≡ signing.Signed 1
 unfolding signAnswer signRefusal signRefusalIn message key exponents masks room isKey setOf sets
 signs = rw by-second
 
-pub writes : signWritten key exponents masks message room ≡ signature
+pub writes : signWritten lowByteRule key exponents masks message room ≡ signature
 unfolding signature signWritten signRefusal signRefusalIn message key exponents masks room isKey setOf sets bodyRead numbers
     signatureOf signatureBytes encoded bigEndian flatten
 writes = rw by-second
 
-pub says-yes : checkAnswer (publicKey 0 exponents values) message signature ≡ answer.Yes
+pub says-yes : checkAnswer lowByteRule (publicKey 0 exponents values) message signature ≡ answer.Yes
 unfolding signature checkAnswer checkRefusal checkRefusalIn checkRefusalOf checkVerdict exponents values publicKey encoded bigEndian flatten
     setOf sets exponentsOf evaluationsOf numbers bodyRead verdict evaluationResidues evaluationResidue message
 says-yes = rw second-drawn

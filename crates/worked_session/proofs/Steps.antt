@@ -9,6 +9,7 @@ use lib.IntN.{pos, negsuc}
 use lib.ListN.{drop}
 use Rattle.parameters.specs.Sets.{sets, setOf}
 use Rattle.polynomial.specs.Evaluation.{evaluation, evaluationResidue, evaluations, evaluationResidues}
+use Rattle.challenge.specs.Pool.{lowByteRule}
 use Rattle.encoding.specs.Bytes.{numbers}
 use Rattle.text.specs.Text.{digits, signedDecimal, hex, spacedIntegers}
 use Rattle.session_rules.specs.Held.{Chosen, Held, withMasks, withLeft}
@@ -27,6 +28,7 @@ set-zero = record { byte = 0; params = setOf 0 }
 
 unfoldable pub loaded : Held
 loaded = record {
+  rule = lowByteRule;
   set = some set-zero;
   exponents = some exponents;
   key = some (loadedKey (drop 1 key));

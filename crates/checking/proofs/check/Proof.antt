@@ -62,8 +62,8 @@ unfolding checkAnswer
 returns c =
     let g = c .before in
     let s = g .before .before .before .before .args in
-    let first = guard-first (s .public-key .now) (s .message .now) (s .signature .now) (λ e. c .if1 .taken (g .guard-refusal .ensures ∙ e)) in
-    stating _ _ _ (rw (first, ← g .guard-refusal .ensures, ne-eqb _ 0 (c .if1 .taken)))
+    let first = guard-first (s .rule) (s .public-key .now) (s .message .now) (s .signature .now) (λ e. c .if1 .taken (g .guard-refusal .ensures ∙ e)) in
+    stating _ _ _ _ (rw (first, ← g .guard-refusal .ensures, ne-eqb _ 0 (c .if1 .taken)))
 
 decode-public-key-requires : tie.Need-decode-public-key-requires
 decode-public-key-requires c κs =
@@ -93,9 +93,9 @@ returns-2 : tie.Need-returns-2
 returns-2 c =
     let d = c .before .before .before .before .before .before .before .before in
     let l = looked d in
-    let is = decoded-answer _ _ _ (passed (tests l)) (l .look-up .ensures .params) (d .decode-public-key .ensures .0)
+    let is = decoded-answer _ _ _ (passed (tests l)) (start (tests l) .args .rule) (l .look-up .ensures .params) (d .decode-public-key .ensures .0)
     (d .decode-public-key .ensures .1) in
-    stating _ _ _ (c .check-in .ensures ∙ is)
+    stating _ _ _ _ (c .check-in .ensures ∙ is)
 
 pub check-spec : {M : Type 1} → statement M
 check-spec =

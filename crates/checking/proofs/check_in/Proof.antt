@@ -17,7 +17,7 @@ use Rattle.challenge.specs.Draw.{drawChallenge}
 use Rattle.polynomial.specs.Sparse.{Sparse}
 use Rattle.scheme.specs.Scheme.{verdict}
 use Rattle.checking.specs.Check.{bodyRead, checkRefusalOf, answerOn}
-use Rattle.checking.specs.Asks.{ruleOf}
+use Rattle.checking.specs.Asks.{verdictOn}
 use Rattle.checking.proofs.Allowed.{ReadAllowed, read-allowed}
 use Rattle.checking.proofs.check_in.Statement.{statement}
 use Rattle.checking.proofs.check_in.Tie as tie
@@ -39,16 +39,16 @@ module _ (d : tie.After-decode-signature) where
 -- what refuses is worked out from the decoded entries
 refusal-is : (c : tie.After-refusal-of) →
     let s = start (c .before .before .before) .args in
-    c .refusal-of .result ≡ checkRefusalOf (s .p) (s .exponents .now) (s .evaluations .now) (entriesIn (s .p) (s .signature .now))
+    c .refusal-of .result ≡ checkRefusalOf (s .rule) (s .p) (s .exponents .now) (s .evaluations .now) (entriesIn (s .p) (s .signature .now))
 refusal-is c =
     let d = c .before .before .before in
     let s = start d .args in
-    c .refusal-of .ensures ∙ ap (checkRefusalOf (s .p) (s .exponents .now) (s .evaluations .now)) (d .decode-signature .ensures .0)
+    c .refusal-of .ensures ∙ ap (checkRefusalOf (s .rule) (s .p) (s .exponents .now) (s .evaluations .now)) (d .decode-signature .ensures .0)
 
 allowed : (c : tie.Else1) →
     let s = start (c .before .before .before .before) .args in
-    ReadAllowed (s .p) (s .exponents .now) (s .evaluations .now) (entriesIn (s .p) (s .signature .now))
-allowed c = read-allowed _ _ _ _ .0 (sym (refusal-is (c .before)) ∙ c .if1 .left)
+    ReadAllowed (s .rule) (s .p) (s .exponents .now) (s .evaluations .now) (entriesIn (s .p) (s .signature .now))
+allowed c = read-allowed _ _ _ _ _ .0 (sym (refusal-is (c .before)) ∙ c .if1 .left)
 
 c-count : tie.Need-slice-aggregate-verdict-of
 c-count c =
@@ -88,14 +88,14 @@ verdict-of-requires c κs =
 -- the rule on what the bytes mean
 verdict-read : (c : tie.After-verdict-of) →
     let s = start (c .before .before .before .before .before .before .before .before .before .before) .args in
-    c .verdict-of .result ≡ verdict drawChallenge (s .p) (s .exponents .now) (s .message .now) (s .evaluations .now) (bodyRead (s .p) (s .signature .now))
+    c .verdict-of .result ≡ verdict (drawChallenge (s .rule)) (s .p) (s .exponents .now) (s .message .now) (s .evaluations .now) (bodyRead (s .p) (s .signature .now))
 unfolding bodyRead
 verdict-read c =
     let w = c .before .before .before .before in
     let d = w .before .before .before .before .before .before in
     let s = start d .args in
     c .verdict-of .ensures
-    ∙ ap₂ (λ (a z : List ℤ). ruleOf (s .p) (s .exponents .now) (s .message .now) (s .evaluations .now) a z)
+    ∙ ap₂ (λ (a z : List ℤ). verdictOn (s .rule) (s .p) (s .exponents .now) (s .message .now) (s .evaluations .now) a z)
     (challenge-read w) (d .decode-signature .ensures .1)
 
 returns : tie.Need-returns

@@ -49,11 +49,11 @@ is-equal-requires c κs = start (c .before .before .before .before .before) .pre
 -- the challenge is drawn from the recovered commitment
 recovered-drawn : (r : tie.After-recovered-commitment) →
     let s = start r .args in
-    drawChallenge (s .p) (take (s .p .t) (r .recovered-commitment .result)) (s .message .now)
-    ≡ drawChallenge (s .p) (recovered (s .p) (signatureWith (s .c .now) (s .z .now)) (s .exponents .now) (s .evaluations .now)) (s .message .now)
+    drawChallenge (s .rule) (s .p) (take (s .p .t) (r .recovered-commitment .result)) (s .message .now)
+    ≡ drawChallenge (s .rule) (s .p) (recovered (s .p) (signatureWith (s .c .now) (s .z .now)) (s .exponents .now) (s .evaluations .now)) (s .message .now)
 recovered-drawn r =
     let s = start r .args in
-    ap (λ (e : List ℕ). drawChallenge (s .p) e (s .message .now)) (r .recovered-commitment .ensures)
+    ap (λ (e : List ℕ). drawChallenge (s .rule) (s .p) e (s .message .now)) (r .recovered-commitment .ensures)
 
 returns : tie.Need-returns
 returns c =
@@ -61,18 +61,18 @@ returns c =
     let r = d .before .before in
     let s = start r .args in
     c .is-equal .ensures
-    ∙ verdict-is _ _ _ _ _ {t = true} {o = some (take (s .p .n) (d .challenge-of .result .challenge))}
+    ∙ verdict-is _ _ _ _ _ _ {t = true} {o = some (take (s .p .n) (d .challenge-of .result .challenge))}
     (sym (r .before .if1 .taken) ∙ r .before .before .in-range16 .ensures)
     ((rw (c .before .before .before .if2 .taken) at (d .challenge-of .ensures)) ∙ recovered-drawn r)
 
 returns-2 : tie.Need-returns-2
 returns-2 c =
     let r = c .before .before .before in
-    verdict-is _ _ _ _ _ {t = true} {o = none} (sym (r .before .if1 .taken) ∙ r .before .before .in-range16 .ensures)
+    verdict-is _ _ _ _ _ _ {t = true} {o = none} (sym (r .before .if1 .taken) ∙ r .before .before .in-range16 .ensures)
     ((rw (c .if2 .left) at (c .before .challenge-of .ensures)) ∙ recovered-drawn r)
 
 returns-3 : tie.Need-returns-3
-returns-3 c = verdict-is _ _ _ _ _ {t = false} (sym (c .if1 .left) ∙ c .before .in-range16 .ensures) refl
+returns-3 c = verdict-is _ _ _ _ _ _ {t = false} (sym (c .if1 .left) ∙ c .before .in-range16 .ensures) refl
 
 pub verdict-of-spec : {M : Type 1} → statement M
 verdict-of-spec =

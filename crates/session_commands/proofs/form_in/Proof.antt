@@ -50,10 +50,14 @@ returns-10 c = (rw (c .entry10 .ensures, c .before .match .keys10), rw (c .entry
 
 returns-11 : tie.Need-returns-11
 unfolding entryIn isKnown commandOf commandTable
-returns-11 c =
+returns-11 c = (rw (c .entry11 .ensures, c .before .match .keys11), rw (c .entry11 .ensures) (omega arith))
+
+returns-12 : tie.Need-returns-12
+unfolding entryIn isKnown commandOf commandTable
+returns-12 c =
     let b = c .before .before .args .byte in
     let r = c .before .match .rest in
-    let l = r .0 .0 .0 .0 .0 in (
+    let l = r .0 .0 .0 .0 .0 .0 in (
       rw (
         c .unknown .ensures,
         ne-eqb b 0 (l .0 .0 .0 .0 .1),
@@ -61,11 +65,12 @@ returns-11 c =
         ne-eqb b 2 (l .0 .0 .1),
         ne-eqb b 3 (l .0 .1),
         ne-eqb b 4 (l .1),
-        ne-eqb b 5 (r .0 .0 .0 .0 .1),
-        ne-eqb b 6 (r .0 .0 .0 .1),
-        ne-eqb b 7 (r .0 .0 .1),
-        ne-eqb b 8 (r .0 .1),
-        ne-eqb b 10 (r .1),
+        ne-eqb b 5 (r .0 .0 .0 .0 .0 .1),
+        ne-eqb b 6 (r .0 .0 .0 .0 .1),
+        ne-eqb b 7 (r .0 .0 .0 .1),
+        ne-eqb b 8 (r .0 .0 .1),
+        ne-eqb b 10 (r .0 .1),
+        ne-eqb b 11 (r .1),
       ),
       rw (c .unknown .ensures) (omega arith),
     )
@@ -75,5 +80,5 @@ form-in-spec =
     tie.close
     (tie.spec (λ c κs. search needs) (λ c κs. search needs) (λ c. search needs) (λ c κs. search needs) (λ c κs. search needs) (λ c. search needs)
     (λ c κs. search needs) (λ c κs. search needs) (λ c κs. search needs) (λ c. search needs) (λ c. search needs) (λ c. search needs)
-    (λ c κs. search needs) (λ c. search needs) (λ c κs. search needs) (λ c κs. search needs) (λ c κs. search needs) returns returns-2 returns-3 returns-4
-    returns-5 returns-6 returns-7 returns-8 returns-9 returns-10 returns-11)
+    (λ c κs. search needs) (λ c. search needs) (λ c κs. search needs) (λ c κs. search needs) (λ c κs. search needs) (λ c κs. search needs) returns returns-2 returns-3 returns-4
+    returns-5 returns-6 returns-7 returns-8 returns-9 returns-10 returns-11 returns-12)

@@ -3,14 +3,13 @@
 use mathlib.Core.Path.{_≡_, refl, sym, ap, _∙_}
 use mathlib.Core.Bool.{Bool, true}
 use mathlib.Core.List.{[]}
-use Prim.Native.Nat.{ℕ, _<_}
-use native.Mathlib.Omega.{arith}
+use Prim.Native.Nat.{ℕ}
 use lib.ListN.{length}
 use borrow.Author.Needs.{needs}
 use Rattle.session_rules.specs.Held.{Held}
-use Rattle.session_rules.specs.CommandTable.{isKnown, commandOf, commandTable}
+use Rattle.session_rules.specs.CommandTable.{commandOf, commandTable}
 use Rattle.session_rules.specs.Commands.{commandIn}
-use Rattle.session_rules.proofs.CommandTable.{by-known}
+use Rattle.session_rules.proofs.CommandTable.{by-needing}
 use Rattle.session_state.specs.State.{heldIn}
 use Rattle.session_commands.specs.declared.Needs.{Needs}
 use Rattle.session_commands.specs.declared.Needs.the-variants as held
@@ -23,7 +22,7 @@ use Rattle.session_commands.proofs.run_in.Tie as tie
 module _ (s : tie.Start) where
   -- the operand has the size of the command's byte
   size : {n : ℕ} → s .args .byte ≡ n → length (s .args .operand .now) ≡ commandOf n .size (s .args .p)
-  size e = rw e at (s .pre .0 .3)
+  size e = rw e at (s .pre .0 .2)
 
   -- what the command needs is held
   ready : {n : ℕ} → s .args .byte ≡ n → (x : Needs) → commandOf n .needs ≡ needsOf x
@@ -96,16 +95,14 @@ load-evaluations-requires c κs =
     (fitting (s .pre .0 .0), (size s e, z .evaluations))
 
 -- the byte that is left
-above-four : (b : ℕ) → 1 < b → (b ≡ 2 → ⊥) → (b ≡ 3 → ⊥) → (b ≡ 4 → ⊥) → 4 < b
-above-four b l two three four = omega arith
-
-above-eight : (b : ℕ) → 4 < b → (b ≡ 5 → ⊥) → (b ≡ 6 → ⊥) → (b ≡ 7 → ⊥) → (b ≡ 8 → ⊥) → 8 < b
-above-eight b l five six seven eight = omega arith
-
-last-byte : (b : ℕ) → isKnown b ≡ true → 8 < b → b ≡ 10
+last-byte : (b : ℕ) → commandOf b .needsSet ≡ true → (b ≡ 2 → ⊥) → (b ≡ 3 → ⊥) → (b ≡ 4 → ⊥) → (b ≡ 5 → ⊥) → (b ≡ 6 → ⊥) → (b ≡ 7 → ⊥) → (b ≡ 8 → ⊥)
+    → b ≡ 10
 last-byte =
-    by-known (λ (b : ℕ). 8 < b → b ≡ 10) (λ l. absurd (omega arith)) (λ l. absurd (omega arith)) (λ l. absurd (omega arith)) (λ l. absurd (omega arith))
-    (λ l. absurd (omega arith)) (λ l. absurd (omega arith)) (λ l. absurd (omega arith)) (λ l. absurd (omega arith)) (λ l. absurd (omega arith)) (λ l. refl)
+    by-needing (λ (b : ℕ). (b ≡ 2 → ⊥) → (b ≡ 3 → ⊥) → (b ≡ 4 → ⊥) → (b ≡ 5 → ⊥) → (b ≡ 6 → ⊥) → (b ≡ 7 → ⊥) → (b ≡ 8 → ⊥) → b ≡ 10)
+    (λ two three four five six seven eight. absurd (two refl)) (λ two three four five six seven eight. absurd (three refl))
+    (λ two three four five six seven eight. absurd (four refl)) (λ two three four five six seven eight. absurd (five refl))
+    (λ two three four five six seven eight. absurd (six refl)) (λ two three four five six seven eight. absurd (seven refl))
+    (λ two three four five six seven eight. absurd (eight refl)) (λ two three four five six seven eight. refl)
 
 ten : (c : tie.At-match-rest) → let s = c .before .before .before .before .before .before .before in s .args .byte ≡ 10
 ten c =
@@ -113,8 +110,7 @@ ten c =
     let b = s .args .byte in
     let r = c .match .rest in
     let l = r .0 .0 .0 .0 in
-    let low = above-four b (s .pre .0 .1) (l .0 .0 .1) (l .0 .1) (l .1) in
-    last-byte b (s .pre .0 .2) (above-eight b low (r .0 .0 .0 .1) (r .0 .0 .1) (r .0 .1) (r .1))
+    last-byte b (s .pre .0 .1) (l .0 .0 .1) (l .0 .1) (l .1) (r .0 .0 .0 .1) (r .0 .0 .1) (r .0 .1) (r .1)
 
 grant-requires : tie.Need-grant-requires
 unfolding commandOf commandTable

@@ -20,25 +20,25 @@ known c = record { short = short (c .before .before); set = has-set _ (sym (c .b
 
 returns : tie.Need-returns
 unfolding signAnswer signWritten signRefusal
-returns c = stating _ _ _ _ _ (rw (lt-ltb 65535 _ (c .if1 .taken)) (refl, refl))
+returns c = stating _ _ _ _ _ _ (rw (lt-ltb 65535 _ (c .if1 .taken)) (refl, refl))
 
 returns-2 : tie.Need-returns-2
 unfolding signAnswer signWritten
 returns-2 c =
     let s = c .before .before .before .before .before .before .before .args in
     let r = c .before .set-refusal in
-    let is = set-refused (s .secret-key .now) (s .exponents .now) (s .masks .now) (s .message .now) (s .out .now) (short (c .before .before))
+    let is = set-refused (s .rule) (s .secret-key .now) (s .exponents .now) (s .masks .now) (s .message .now) (s .out .now) (short (c .before .before))
     (λ e. c .if2 .taken (r .ensures ∙ e)) in
-    stating _ _ _ _ _ (rw (is, ← r .ensures, ne-eqb _ 0 (c .if2 .taken)) (refl, refl))
+    stating _ _ _ _ _ _ (rw (is, ← r .ensures, ne-eqb _ 0 (c .if2 .taken)) (refl, refl))
 
 returns-3 : tie.Need-returns-3
 returns-3 c =
     let g = c .before .before .before .before .before in
     let k = known (g .before) in
     let s = g .before .before .before .before .before .before .before .before .args in
-    stating _ _ _ _ _ (rw (
-      answer-entry (s .secret-key .now) (s .exponents .now) (s .masks .now) (s .message .now) (s .out .now) k,
-      written-entry (s .secret-key .now) (s .exponents .now) (s .masks .now) (s .message .now) (s .out .now) k,
+    stating _ _ _ _ _ _ (rw (
+      answer-entry (s .rule) (s .secret-key .now) (s .exponents .now) (s .masks .now) (s .message .now) (s .out .now) k,
+      written-entry (s .rule) (s .secret-key .now) (s .exponents .now) (s .masks .now) (s .message .now) (s .out .now) k,
     ) (rw (set-and-rest (k .set)) at (c .before .before .sign-in-set .ensures)))
 
 pub sign-spec : {M : Type 1} → statement M

@@ -13,16 +13,16 @@ use Rattle.signing.proofs.sign_first.Statement.{statement}
 use Rattle.signing.proofs.sign_first.Tie as tie
 
 abbrev Inv-loop : tie.InvT-loop
-Inv-loop p powers split set f exponents masks message out₀ n count i₀ out i =
-    (i ≤ offeredCount p masks) × (signedBy drawChallenge p f exponents masks message ≡ signedFrom drawChallenge p f exponents masks message i) × (out ≡ out₀)
+Inv-loop p powers split set f exponents masks message out₀ rule n count i₀ out i =
+    (i ≤ offeredCount p masks) × (signedBy (drawChallenge rule) p f exponents masks message ≡ signedFrom (drawChallenge rule) p f exponents masks message i) × (out ≡ out₀)
 
 abbrev μ-loop : tie.MeasureT-loop
-μ-loop p powers split set f exponents masks message out₀ n count i₀ out i = count - i
+μ-loop p powers split set f exponents masks message out₀ rule n count i₀ out i = count - i
 
 loop-holds : tie.Need-loop-holds Inv-loop μ-loop
 loop-holds c =
     let a = c .before .before .before .before .args in
-    (zero-le, signed-all drawChallenge (a .p) (a .f .now) (a .exponents .now) (a .masks .now) (a .message .now), refl)
+    (zero-le, signed-all (drawChallenge (a .rule)) (a .p) (a .f .now) (a .exponents .now) (a .masks .now) (a .message .now), refl)
 
 -- the next mask lies within the masks
 end-in-masks : (c : tie.In-loop Inv-loop μ-loop) →
@@ -51,7 +51,7 @@ module _ (c : tie.After-sign-with-mask Inv-loop μ-loop) where
 
   tried : let a = start .args in
       let l = turn .before .loop in
-      Attempted (a .set) (offer drawChallenge (a .p) (a .f .now) (a .exponents .now) (a .masks .now) (a .message .now) (l .i)) (l .out)
+      Attempted (a .set) (offer (drawChallenge (a .rule)) (a .p) (a .f .now) (a .exponents .now) (a .masks .now) (a .message .now) (l .i)) (l .out)
       (c .sign-with-mask .result) (c .sign-with-mask .last .1 .1 .1 .1 .1 .1 .1 .1 .0)
   tried = rw (mask-between (start .args .p) (start .args .masks .now) (turn .before .loop .i)) at (c .sign-with-mask .ensures)
 
@@ -63,7 +63,7 @@ returns c =
     let w = c .before .before .before in
     let a = start w .args in
     let l = turn w .before .loop in
-    passed-here drawChallenge (a .p) (a .f .now) (a .exponents .now) (a .masks .now) (a .message .now) (l .i) (turn w .loop-test .taken) (l .inv .1)
+    passed-here (drawChallenge (a .rule)) (a .p) (a .f .now) (a .exponents .now) (a .masks .now) (a .message .now) (l .i) (turn w .loop-test .taken) (l .inv .1)
     (l .inv .2) (tried w) (c .if1 .taken)
 
 add-i : tie.Need-add-i Inv-loop μ-loop
@@ -77,7 +77,7 @@ loop-again c =
     let w = c .before .before .before in
     let a = start w .args in
     let l = turn w .before .loop in
-    let (later, same) = failed-here drawChallenge (a .p) (a .f .now) (a .exponents .now) (a .masks .now) (a .message .now) (l .i) (turn w .loop-test .taken)
+    let (later, same) = failed-here (drawChallenge (a .rule)) (a .p) (a .f .now) (a .exponents .now) (a .masks .now) (a .message .now) (l .i) (turn w .loop-test .taken)
     (l .inv .1) (l .inv .2) (tried w) (c .if1 .left) in
     (omega arith, later, same)
 
@@ -85,7 +85,7 @@ returns-2 : tie.Need-returns-2 Inv-loop μ-loop
 returns-2 c =
     let a = c .before .before .before .before .before .before .args in
     let l = c .before .loop in
-    none-offered drawChallenge (a .p) (a .f .now) (a .exponents .now) (a .masks .now) (a .message .now) (l .i) (c .loop-test .left) (l .inv .1) (l .inv .2)
+    none-offered (drawChallenge (a .rule)) (a .p) (a .f .now) (a .exponents .now) (a .masks .now) (a .message .now) (l .i) (c .loop-test .left) (l .inv .1) (l .inv .2)
 
 pub sign-first-spec : {M : Type 1} → statement M
 sign-first-spec =

@@ -47,17 +47,17 @@ module _ (c : tie.Else1) where
 
   -- what the masks give
   abbrev signed : Option Signed
-  signed = let s = start .args in signedBy drawChallenge (s .p) (keyOf key) (s .exponents .now) (s .masks .now) (s .message .now)
+  signed = let s = start .args in signedBy (drawChallenge (s .rule)) (s .p) (keyOf key) (s .exponents .now) (s .masks .now) (s .message .now)
 
   abbrev count : ℕ
   count = length (start .args .masks .now) / start .args .p .n
 
-  allowed-is : let s = start .args in signRefusalIn (s .p) key (s .exponents .now) (s .masks .now) (length (s .out .now)) ≡ 0
+  allowed-is : let s = start .args in signRefusalIn (s .rule) (s .p) key (s .exponents .now) (s .masks .now) (length (s .out .now)) ≡ 0
   unfolding signRefusalIn isKey
   allowed-is = sym (c .before .sign-refusal .ensures) ∙ c .if1 .left
 
-  allowed : let s = start .args in SignAllowed (s .p) key (s .exponents .now) (s .masks .now) (length (s .out .now))
-  allowed = let s = start .args in sign-allowed (s .p) key (s .exponents .now) (s .masks .now) (length (s .out .now)) .0 allowed-is
+  allowed : let s = start .args in SignAllowed (s .rule) (s .p) key (s .exponents .now) (s .masks .now) (length (s .out .now))
+  allowed = let s = start .args in sign-allowed (s .rule) (s .p) key (s .exponents .now) (s .masks .now) (length (s .out .now)) .0 allowed-is
 
   few : count ≤ 8
   few =
@@ -68,7 +68,7 @@ module _ (c : tie.Else1) where
 
   -- a mask that signs is one of those offered
   one-offered : (r : Signed) → signed ≡ some r → r .passedOver < count
-  one-offered r e = offered {out = start .args .out .now} {r = r} (record { allowed = allowed-is; signs = e; place = refl })
+  one-offered r e = offered {draw = drawChallenge} {out = start .args .out .now} {r = r} (record { allowed = allowed-is; signs = e; place = refl })
 
 returns : tie.Need-returns
 unfolding signAnswerIn signWrittenIn signRefusalIn isKey

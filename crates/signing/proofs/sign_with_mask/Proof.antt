@@ -54,17 +54,17 @@ module _ (c : tie.After-challenge-of) where
 
   tried : {t : Bool} → c .challenge-of .result .complete ≡ t →
       let s = start w .args in
-      attempt drawChallenge (s .p) (s .exponents .now) (s .message .now) (s .f .now) (s .y .now)
+      attempt (drawChallenge (s .rule)) (s .p) (s .exponents .now) (s .message .now) (s .f .now) (s .y .now)
       ≡ withChallenge (s .p) (s .f .now) (s .y .now) (cond t (some (take (s .p .n) (c .challenge-of .result .challenge))) none)
   tried =
       let s = start w .args in
-      attempt-is (s .p) (s .exponents .now) (s .message .now) (s .f .now) (s .y .now) (c .challenge-of .result) (c .challenge-of .ensures) (committed w .front)
+      attempt-is (s .rule) (s .p) (s .exponents .now) (s .message .now) (s .f .now) (s .y .now) (c .challenge-of .result) (c .challenge-of .ensures) (committed w .front)
 
   sparse : c .challenge-of .result .complete ≡ true → Sparse (start w .args .p) (take (start w .args .p .n) (c .challenge-of .result .challenge))
   sparse =
       let s = start w .args in
       let d = c .challenge-of in
-      drawn-sparse (s .p) (s .exponents .now) (s .message .now) (s .f .now) (s .y .now) (d .result) (d .ensures) (committed w .front)
+      drawn-sparse (s .rule) (s .p) (s .exponents .now) (s .message .now) (s .f .now) (s .y .now) (d .result) (d .ensures) (committed w .front)
 
   drawn : InFront (start w .args .p .n) (take (start w .args .p .n) (c .challenge-of .result .challenge)) (c .challenge-of .result .challenge)
   drawn =

@@ -62,7 +62,7 @@ module _ (c : tie.After-check-in) where
       let g = s .args in
       let js = take (g .p .t) (g .exponents .now) in
       let vs = take (g .p .t) (g .evaluations .now) in
-      let encoded = answer-encoded (s .pre .0 .0) js vs (g .message .now) (g .operand .now) (omega (arith, s .pre .1 .0 .2)) (exponents-size s)
+      let encoded = answer-encoded (s .pre .0 .0) js vs (g .message .now) (g .operand .now) (g .flags .rule) (omega (arith, s .pre .1 .0 .2)) (exponents-size s)
       (tested (g .flags .exponents) (held s .first)) (evaluations-size s) (tested (g .flags .evaluations) (held s .second)) (s .pre .0 .1) in
       let answer = sym told ∙ c .check-in .ensures ∙ encoded in
       checks (g .p) (g .flags) (g .exponents .now) k (g .evaluations .now) m (g .message .now) (g .operand .now) (held s) answer

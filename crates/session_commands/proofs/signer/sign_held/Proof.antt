@@ -39,6 +39,7 @@ counting f count left =
       ended = f .ended;
       place = f .place;
       rows = f .rows;
+      rule = f .rule;
       set = f .set;
       exponents = f .exponents;
       key = f .key;
@@ -64,7 +65,7 @@ module _ (c : tie.After-sign-with) where
   decided : {x : Signing} → c .sign-with .result ≡ x → (v : List ℕ) → let a = begun .args in
       sign chosen (before v)
       ≡ afterSigning chosen (before v) x
-      (signWritten (a .flags .set ∷ take (a .p .n) (a .key .now)) (take (a .p .t) (a .exponents .now))
+      (signWritten (a .flags .rule) (a .flags .set ∷ take (a .p .n) (a .key .now)) (take (a .p .t) (a .exponents .now))
       (flatten (masksHeld (a .p .n) (a .flags .count) (a .masks .now))) (a .message .now) (signatureRoom (a .p)))
   decided told v =
       let a = begun .args in

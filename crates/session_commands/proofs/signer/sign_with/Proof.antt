@@ -83,11 +83,11 @@ returns c =
     let told = rw (← s .pre .0 .0 .is) at (signed .ensures) in
     let behind = drop (sized b .signature-size .result) (a .signature .now) in
     record {
-      answers = told .0 ∙ answer-lent (s .pre .0 .0) key js ys (a .message .now) (lent b) short (lent-size b)
-          ∙ ap (λ (l : List ℤ). signAnswer (a .flags .set ∷ key) js l (a .message .now) (signatureRoom (a .p))) (masks-held offer);
+      answers = told .0 ∙ answer-lent (s .pre .0 .0) (a .flags .rule) key js ys (a .message .now) (lent b) short (lent-size b)
+          ∙ ap (λ (l : List ℤ). signAnswer (a .flags .rule) (a .flags .set ∷ key) js l (a .message .now) (signatureRoom (a .p))) (masks-held offer);
       writes = λ say. take-at (signed .last .1 .1 .1 .1 .1 .0) behind (signatureSize (a .p)) (signed .kept .1 .1 .1 .1 .1 .0 ∙ lent-size b)
-          ∙ told .1 ∙ written-lent (s .pre .0 .0) key js ys (a .message .now) (lent b) short (lent-size b) (sym (told .0) ∙ say)
-          ∙ ap (λ (l : List ℤ). signWritten (a .flags .set ∷ key) js l (a .message .now) (signatureRoom (a .p))) (masks-held offer);
+          ∙ told .1 ∙ written-lent (s .pre .0 .0) (a .flags .rule) key js ys (a .message .now) (lent b) short (lent-size b) (sym (told .0) ∙ say)
+          ∙ ap (λ (l : List ℤ). signWritten (a .flags .rule) (a .flags .set ∷ key) js l (a .message .now) (signatureRoom (a .p))) (masks-held offer);
     }
 
 pub sign-with-spec : {M : Type 1} → statement M
