@@ -1,8 +1,8 @@
 /* Measures the kit's functions beside plain C of the same method, on the same input, in one run: least and middle time of many rounds in
-   microseconds, and the ratios. A difference in what the two compute ends the run. Evaluation at all exponents, 1 to N-1, has its own method, and is
-   measured beside N-1 plain evaluations: those of plain C, and in a table of its own those of the kit. Another table has points that are outside at one
-   coefficient. With HAVE_FFTW another has the paper's method, Rader's reordering with FFTW, beside the kit. The last one shows how the kit's evaluation
-   grows. */
+   microseconds, and the ratios. A difference in what the two compute ends the run. What signs or checks does it under rule 1, but for rows that say
+   rule 2. Evaluation at all exponents, 1 to N-1, has its own method, and is measured beside N-1 plain evaluations: those of plain C, and in a table of
+   its own those of the kit. Another table has points that are outside at one coefficient. With HAVE_FFTW another has the paper's method, Rader's
+   reordering with FFTW, beside the kit. The last one shows how the kit's evaluation grows. */
 #include "material.h"
 #ifdef HAVE_FFTW
 #include "fftw.h"
@@ -80,10 +80,10 @@ static void plain_draws(void) { plain_draw(in_use(), pool, plain.challenge); }
 static void ours_draws(void) { passign_draw(set, pool, sizeof pool, ours.challenge, in_use()->n); }
 static void plain_points(void) { plain_point(in_use(), key, plain.challenge, masks[0], plain.z); }
 static void ours_points(void) { harness_point(key, in_use()->n, ours.challenge, in_use()->n, masks[0], in_use()->n, ours.z, in_use()->n); }
-static void plain_signs(void) { plain.answer = 256 * plain_sign(in_use(), powers, secret_key, points, masks[0], message, 64, plain.signature); }
+static void plain_signs(void) { plain.answer = 256 * plain_sign(in_use(), powers, secret_key, points, masks[0], message, 64, plain.signature, rule); }
 static void ours_signs(void) { ours.answer = sign_with(masks[0], ours.signature); }
-static void plain_checks(void) { plain.answer = 256 * plain_check(in_use(), powers, public_key, message, 64, signatures[0]); }
-static void ours_checks(void) { ours.answer = passign_check(public_key, 1 + 5 * in_use()->t, message, 64, signatures[0], signature_size()); }
+static void plain_checks(void) { plain.answer = 256 * plain_check(in_use(), powers, public_key, message, 64, signatures[0], rule); }
+static void ours_checks(void) { ours.answer = passign_check(public_key, 1 + 5 * in_use()->t, message, 64, signatures[0], signature_size(), rule); }
 static void plain_plays(void) { plain_play(file, size, plain.rows); }
 static void ours_plays(void) { play_file(ours.rows); }
 
@@ -100,15 +100,17 @@ static void ours_tests(void)
 static void plain_products(void) { plain_draws(), plain_points(); }
 static void ours_products(void) { ours_draws(), ours_points(); }
 
-static void prepare(uint8_t number)
+static void prepare_under(uint8_t number, uint8_t rule_in_use)
 {
-    settle(number);
+    settle(number, rule_in_use);
     plain_powers(in_use(), powers);
     for (size_t i = 0; i < in_use()->n; i++)
         key[i] = (int8_t)secret_key[1 + i];
     for (size_t i = 0; i + 1 < in_use()->n; i++)
         exponents[i] = i + 1;
 }
+
+static void prepare(uint8_t number) { prepare_under(number, PASSIGN_RULE_LOW_BYTE); }
 
 /* 04 of a mask with k at a place: its point is outside there, unless that key's product with that challenge is -b at this place */
 static void failing_mask(int mask, size_t at)
@@ -160,6 +162,15 @@ static void compare_failing(void)
     }
 }
 
+static void compare_under_rule_2(int number)
+{
+    prepare_under(number, PASSIGN_RULE_THREE_BYTES);
+    fill_with_pairs();
+    compare("sign, rule 2", plain_signs, ours_signs);
+    compare("check, rule 2", plain_checks, ours_checks);
+    compare("session, rule 2", plain_plays, ours_plays);
+}
+
 #ifdef HAVE_FFTW
 static struct rader rader;
 
@@ -170,8 +181,8 @@ static void rader_evaluates(void)
     for (size_t i = 0; i < in_use()->t; i++)
         plain.values[i] = plain_centred(in_use(), residues[i]);
 }
-static void rader_signs(void) { plain.answer = 256 * rader_sign(in_use(), &rader, secret_key, points, masks[0], message, 64, plain.signature); }
-static void rader_checks(void) { plain.answer = 256 * rader_check(in_use(), &rader, public_key, message, 64, signatures[0]); }
+static void rader_signs(void) { plain.answer = 256 * rader_sign(in_use(), &rader, secret_key, points, masks[0], message, 64, plain.signature, rule); }
+static void rader_checks(void) { plain.answer = 256 * rader_check(in_use(), &rader, public_key, message, 64, signatures[0], rule); }
 
 static void must(int right)
 {
@@ -213,10 +224,10 @@ static void verify_signatures(void)
 {
     uint8_t signature[2379];
     for (int j = 0; j < MASKS; j++) {
-        must(rader_sign(in_use(), &rader, secret_key, points, masks[j], message, 64, signature));
+        must(rader_sign(in_use(), &rader, secret_key, points, masks[j], message, 64, signature, rule));
         must(memcmp(signature, signatures[j], signature_size()) == 0);
-        must(rader_check(in_use(), &rader, public_key, message, 64, signature));
-        must(!rader_check(in_use(), &rader, public_key, message + 1, 64, signature));
+        must(rader_check(in_use(), &rader, public_key, message, 64, signature, rule));
+        must(!rader_check(in_use(), &rader, public_key, message + 1, 64, signature, rule));
     }
 }
 
@@ -270,6 +281,7 @@ int main(void)
         compare("sign with one mask", plain_signs, ours_signs);
         compare("check", plain_checks, ours_checks);
         compare("session of 64 KiB", plain_plays, ours_plays);
+        compare_under_rule_2(number);
     }
     head("ours, each", "ours, all");
     for (int number = 1; number < 5; number++) {

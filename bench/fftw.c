@@ -112,7 +112,7 @@ static void write_signature(const struct plain_set *s, uint8_t set, const int8_t
 }
 
 int rader_sign(const struct plain_set *s, struct rader *r, const uint8_t *secret_key, const uint16_t *points, const int16_t *mask,
-               const uint8_t *message, size_t size, uint8_t *signature)
+               const uint8_t *message, size_t size, uint8_t *signature, uint8_t rule)
 {
     int16_t f[1153];
     int8_t c[1153];
@@ -121,7 +121,7 @@ int rader_sign(const struct plain_set *s, struct rader *r, const uint8_t *secret
     for (size_t i = 0; i < s->n; i++)
         f[i] = (int8_t)secret_key[1 + i];
     rader_evaluate(s, r, mask, points, s->t, commitment);
-    if (!plain_challenge(s, commitment, message, size, c))
+    if (!plain_challenge(s, commitment, message, size, c, rule))
         return 0;
     plain_point(s, f, c, mask, z);
     if (!in_range(s, z))
@@ -157,7 +157,8 @@ static void commit(const struct plain_set *s, struct rader *r, const uint8_t *pu
     }
 }
 
-int rader_check(const struct plain_set *s, struct rader *r, const uint8_t *public_key, const uint8_t *message, size_t size, const uint8_t *signature)
+int rader_check(const struct plain_set *s, struct rader *r, const uint8_t *public_key, const uint8_t *message, size_t size, const uint8_t *signature,
+                uint8_t rule)
 {
     int16_t z[1153], c[1153] = {0};
     int32_t wide[1153];
@@ -167,7 +168,7 @@ int rader_check(const struct plain_set *s, struct rader *r, const uint8_t *publi
     if (!in_range(s, wide))
         return 0;
     commit(s, r, public_key, c, z, commitment);
-    if (!plain_challenge(s, commitment, message, size, drawn))
+    if (!plain_challenge(s, commitment, message, size, drawn, rule))
         return 0;
     for (size_t i = 0; i < s->n; i++)
         if (drawn[i] != c[i])

@@ -20,7 +20,8 @@ void rader_end(struct rader *r);
 
 void rader_evaluate(const struct plain_set *s, struct rader *r, const int16_t *coefficients, const uint16_t *points, size_t count, uint32_t *out);
 int rader_sign(const struct plain_set *s, struct rader *r, const uint8_t *secret_key, const uint16_t *points, const int16_t *mask,
-               const uint8_t *message, size_t size, uint8_t *signature);
-int rader_check(const struct plain_set *s, struct rader *r, const uint8_t *public_key, const uint8_t *message, size_t size, const uint8_t *signature);
+               const uint8_t *message, size_t size, uint8_t *signature, uint8_t rule);
+int rader_check(const struct plain_set *s, struct rader *r, const uint8_t *public_key, const uint8_t *message, size_t size, const uint8_t *signature,
+                uint8_t rule);
 
 #endif

@@ -1,4 +1,4 @@
-/* A key, points, masks that pass and a message for a set, and session files made of them. */
+/* A key, points, masks that pass and a message for a set, signatures of them under a rule, and session files made of them. */
 #ifndef MATERIAL_H
 #define MATERIAL_H
 #include "harness.h"
@@ -10,7 +10,7 @@
 
 enum { FILE_ROOM = 65536, MASKS = 60, ROW_BUFFER = 16384 };
 
-static uint8_t set, secret_key[1154], public_key[3001], message[65535], signatures[MASKS][2379];
+static uint8_t set, rule, secret_key[1154], public_key[3001], message[65535], signatures[MASKS][2379];
 static uint16_t points[600];
 static int16_t masks[MASKS][1153];
 static uint8_t file[FILE_ROOM];
@@ -23,15 +23,16 @@ static size_t signature_size(void) { return 1 + 2 * in_use()->b + 2 * in_use()->
 static uint32_t sign_with(const int16_t *mask, uint8_t *signature)
 {
     const struct plain_set *s = in_use();
-    return passign_sign(secret_key, 1 + s->n, points, s->t, mask, s->n, message, 64, signature, signature_size());
+    return passign_sign(secret_key, 1 + s->n, points, s->t, mask, s->n, message, 64, signature, signature_size(), rule);
 }
 
 /* coefficients within k - 2b pass whatever key and challenge are, but for a spent pool */
-static void settle(uint8_t number)
+static void settle(uint8_t number, uint8_t rule_in_use)
 {
     const struct plain_set *s = &plain_sets[number];
     int bound = (int)s->k - 2 * (int)s->b;
     set = secret_key[0] = number;
+    rule = rule_in_use;
     for (size_t i = 0; i < s->n; i++)
         secret_key[1 + i] = (uint8_t)(next() % 3 - 1);
     for (size_t i = 0; i < s->t; i++)
@@ -78,14 +79,17 @@ static void command(uint8_t number, int mask)
     case 7: bytes(signatures[mask] + 1, signature_size() - 1); break;
     case 8: bytes(public_key + 1 + 2 * s->t, 3 * s->t); break;
     case 10: word(65535); break;
+    case 11: byte(rule); break;
     }
 }
 
-/* tag, set and points */
+/* tag, set and points; first the rule, where it is not the one that a session opens under */
 static void begin_file(void)
 {
     size = commands = 0;
     bytes((const uint8_t *)"PSG1", 4);
+    if (rule != PASSIGN_RULE_LOW_BYTE)
+        command(11, 0);
     command(1, 0);
     command(2, 0);
 }

@@ -132,13 +132,25 @@ int plain_draw(const struct plain_set *s, const uint8_t *pool, int8_t *c)
     return kept == s->b;
 }
 
-int plain_challenge(const struct plain_set *s, const uint32_t *commitment, const uint8_t *message, size_t size, int8_t *c)
+/* rule 1: the low byte of each evaluation; rule 2: all three, low byte first; how many they are */
+static size_t commitment_bytes(const struct plain_set *s, const uint32_t *commitment, uint8_t rule, uint8_t *to)
 {
-    uint8_t first[1152 + 64], pool[512];
+    if (rule == 1) {
+        for (size_t i = 0; i < s->t; i++)
+            to[i] = commitment[i];
+        return s->t;
+    }
     for (size_t i = 0; i < s->t; i++)
-        first[i] = commitment[i];
-    plain_sha512(message, size, first + s->t);
-    plain_sha512(first, s->t + 64, pool);
+        to[3 * i] = commitment[i], to[3 * i + 1] = commitment[i] >> 8, to[3 * i + 2] = commitment[i] >> 16;
+    return 3 * s->t;
+}
+
+int plain_challenge(const struct plain_set *s, const uint32_t *commitment, const uint8_t *message, size_t size, int8_t *c, uint8_t rule)
+{
+    uint8_t first[3 * 600 + 64], pool[512];
+    size_t count = commitment_bytes(s, commitment, rule, first);
+    plain_sha512(message, size, first + count);
+    plain_sha512(first, count + 64, pool);
     for (int i = 1; i < 8; i++)
         plain_sha512(pool + 64 * (i - 1), 64, pool + 64 * i);
     return plain_draw(s, pool, c);
@@ -154,7 +166,7 @@ size_t plain_first_outside(const struct plain_set *s, const int32_t *z)
 }
 
 int plain_sign(const struct plain_set *s, const uint32_t *powers, const uint8_t *secret_key, const uint16_t *points, const int16_t *mask,
-               const uint8_t *message, size_t size, uint8_t *signature)
+               const uint8_t *message, size_t size, uint8_t *signature, uint8_t rule)
 {
     int16_t f[1153] = {0};
     int8_t c[1153];
@@ -163,7 +175,7 @@ int plain_sign(const struct plain_set *s, const uint32_t *powers, const uint8_t 
     for (size_t i = 0; i < s->n; i++)
         f[i] = (int8_t)secret_key[1 + i];
     plain_evaluate(s, powers, mask, points, s->t, commitment);
-    if (!plain_challenge(s, commitment, message, size, c))
+    if (!plain_challenge(s, commitment, message, size, c, rule))
         return 0;
     plain_point(s, f, c, mask, z);
     if (plain_first_outside(s, z) < s->n)
@@ -182,7 +194,7 @@ int plain_sign(const struct plain_set *s, const uint32_t *powers, const uint8_t 
 }
 
 int plain_check(const struct plain_set *s, const uint32_t *powers, const uint8_t *public_key, const uint8_t *message, size_t size,
-                const uint8_t *signature)
+                const uint8_t *signature, uint8_t rule)
 {
     uint16_t points[600];
     uint32_t of_z[600], of_c[600];
@@ -204,7 +216,7 @@ int plain_check(const struct plain_set *s, const uint32_t *powers, const uint8_t
         uint64_t v = values[3 * i] << 16 | values[3 * i + 1] << 8 | values[3 * i + 2];
         of_z[i] = (of_z[i] + s->q - v * of_c[i] % s->q) % s->q;
     }
-    if (!plain_challenge(s, of_z, message, size, drawn))
+    if (!plain_challenge(s, of_z, message, size, drawn, rule))
         return 0;
     for (size_t i = 0; i < s->n; i++)
         if (drawn[i] != c[i])

@@ -1,8 +1,10 @@
-/* A plain C player of session files that are well formed, to measure the kit's against: rows go to the front of a buffer, one after the other. */
+/* A plain C player of session files that are well formed and have no 0A, to measure the kit's against: rows go to the front of a buffer, one after the
+   other. */
 #include "plain.h"
 #include <string.h>
 
 struct held {
+    uint8_t rule;
     const struct plain_set *set;
     int points_held, key_held, evaluations_held, message_held, masks;
     uint32_t powers[1153];
@@ -43,7 +45,7 @@ static uint8_t *head(uint8_t *at, uint32_t ordinal, uint8_t command, uint32_t nu
 
 static size_t operand_size(const struct plain_set *s, uint8_t command)
 {
-    size_t sizes[9] = {0, 1, 2 * s->t, s->n, 2 * s->n, 64, 0, 2 * s->b + 2 * s->n, 3 * s->t};
+    size_t sizes[12] = {0, 1, 2 * s->t, s->n, 2 * s->n, 64, 0, 2 * s->b + 2 * s->n, 3 * s->t, [11] = 1};
     return sizes[command];
 }
 
@@ -114,7 +116,7 @@ static uint32_t sign(struct held *h, uint8_t **at)
 {
     uint8_t signature[2379];
     for (int i = 0; i < h->masks; i++)
-        if (plain_sign(h->set, h->powers, h->key, h->points, h->mask[i], h->message, 64, signature)) {
+        if (plain_sign(h->set, h->powers, h->key, h->points, h->mask[i], h->message, 64, signature, h->rule)) {
             memmove(h->mask[0], h->mask[i + 1], (h->masks - i - 1) * sizeof h->mask[0]);
             h->masks -= i + 1;
             *(*at)++ = ' ';
@@ -133,15 +135,26 @@ static void check(struct held *h, const uint8_t *operand, uint8_t **at)
     signature[0] = h->key[0];
     memcpy(signature + 1, operand, 2 * h->set->b + 2 * h->set->n);
     *(*at)++ = ' ';
-    *at = decimal(*at, plain_check(h->set, h->powers, h->public_key, h->message, 64, signature));
+    *at = decimal(*at, plain_check(h->set, h->powers, h->public_key, h->message, 64, signature, h->rule));
 }
 
+/* forgets all but the rule */
 static void choose(struct held *h, uint8_t set)
 {
+    uint8_t rule = h->rule;
     memset(h, 0, sizeof *h);
+    h->rule = rule;
     h->set = &plain_sets[set];
     h->key[0] = h->public_key[0] = set;
     plain_powers(h->set, h->powers);
+}
+
+static uint32_t choose_rule(struct held *h, uint8_t rule)
+{
+    if (rule != 1 && rule != 2)
+        return 18;
+    h->rule = rule;
+    return 0;
 }
 
 /* plays to the end; each row overwrites the one before it */
@@ -149,6 +162,7 @@ void plain_play(const uint8_t *file, size_t size, uint8_t *rows)
 {
     static struct held h;
     uint32_t ordinal = 0;
+    h.rule = 1, h.set = &plain_sets[0];
     for (size_t place = 4; place < size;) {
         uint8_t command = file[place++], added[16384], *at = added, *row;
         const uint8_t *operand = file + place;
@@ -162,6 +176,7 @@ void plain_play(const uint8_t *file, size_t size, uint8_t *rows)
         case 6: number = h.key_held && h.message_held ? sign(&h, &at) : 10; break;
         case 8: number = h.points_held ? load_evaluations(&h, operand) : 10; break;
         case 7: h.evaluations_held && h.message_held ? check(&h, operand, &at) : (void)(number = 10); break;
+        case 11: number = choose_rule(&h, *operand); break;
         }
         place += operand_size(h.set, command);
         row = head(rows, ++ordinal, command, number);

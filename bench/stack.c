@@ -1,5 +1,5 @@
-/* Prints the least stack in which each function of the library and plays of a session run, in KiB rounded up: the largest over the five sets, each call
-   accepted. A call is made on a stack that was painted, and the lowest byte that lost its paint is looked for; with two paints, since a call may write
+/* Prints the least stack in which each function of the library and plays of a session run, in KiB rounded up: the largest over the five sets and both
+   rules, each call accepted. A call is made on a stack that was painted, and the lowest byte that lost its paint is looked for; with two paints, since a call may write
    either. Then it is made once more with the pages below that byte shut. */
 #define _GNU_SOURCE
 #include "material.h"
@@ -58,9 +58,9 @@ static size_t least(void (*call)(void), uint32_t expected)
 
 static void sign(void)
 {
-    answer = passign_sign(secret_key, 1 + in_use()->n, points, in_use()->t, masks[0], in_use()->n, message, length, signature, signature_size());
+    answer = passign_sign(secret_key, 1 + in_use()->n, points, in_use()->t, masks[0], in_use()->n, message, length, signature, signature_size(), rule);
 }
-static void check(void) { answer = passign_check(public_key, 1 + 5 * in_use()->t, message, length, signature, signature_size()); }
+static void check(void) { answer = passign_check(public_key, 1 + 5 * in_use()->t, message, length, signature, signature_size(), rule); }
 static void make_public_key(void) { answer = passign_public_key(secret_key, 1 + in_use()->n, points, in_use()->t, bytes_out, 1 + 5 * in_use()->t); }
 static void evaluate(void) { answer = passign_evaluate(set, masks[0], in_use()->n, points, in_use()->t, evaluations, in_use()->t); }
 static void evaluate_all(void) { answer = passign_evaluate_all(set, masks[0], in_use()->n, evaluations, in_use()->n - 1); }
@@ -97,8 +97,8 @@ static const struct { const char *name; void (*call)(void); uint32_t expected; }
 };
 enum { FUNCTIONS = sizeof functions / sizeof *functions };
 
-/* each command behind those that it needs; last a whole session */
-static const char *const sessions[] = {"0", "1", "12", "123", "14", "15", "123546", "12857", "128", "123A", "1235A46780"};
+/* each command behind those that it needs, 06 and 07 behind 0B too; last a whole session */
+static const char *const sessions[] = {"0", "1", "12", "123", "14", "15", "B123546", "B12857", "128", "123A", "B", "B1235A46780"};
 enum { SESSIONS = sizeof sessions / sizeof *sessions };
 
 static uint8_t number_of(char digit) { return digit <= '9' ? digit - '0' : digit - 'A' + 10; }
@@ -107,26 +107,35 @@ static void keep(size_t *most, size_t found) { *most = *most < found ? found : *
 
 static void print(const char *name, size_t found) { printf("%-44s %5zu KiB\n", name, (found + 1023) / 1024); }
 
+static size_t most[FUNCTIONS], most_of_plays[SESSIONS];
+
+/* with what settle made */
+static void measure_all(void)
+{
+    for (size_t i = 0; i < sizeof pool; i++)
+        pool[i] = next();
+    for (length = 64; length <= PASSIGN_MAX_MESSAGE; length += PASSIGN_MAX_MESSAGE - 64)
+        for (int i = 0; i < FUNCTIONS; i++)
+            keep(&most[i], least(functions[i].call, functions[i].expected));
+    for (int i = 0; i < SESSIONS; i++) {
+        size = commands = 0;
+        bytes((const uint8_t *)"PSG1", 4);
+        for (const char *c = sessions[i]; *c; c++)
+            command(number_of(*c), 0);
+        keep(&most_of_plays[i], least(plays, 0));
+    }
+}
+
 int main(void)
 {
-    size_t most[FUNCTIONS] = {0}, most_of_plays[SESSIONS] = {0};
     stack = mmap(NULL, STACK, PROT_READ | PROT_WRITE, MAP_PRIVATE | MAP_ANONYMOUS, -1, 0);
     if (stack == MAP_FAILED)
         return 1;
     for (int number = 0; number < SETS; number++) {
-        settle(number);
-        for (size_t i = 0; i < sizeof pool; i++)
-            pool[i] = next();
-        for (length = 64; length <= PASSIGN_MAX_MESSAGE; length += PASSIGN_MAX_MESSAGE - 64)
-            for (int i = 0; i < FUNCTIONS; i++)
-                keep(&most[i], least(functions[i].call, functions[i].expected));
-        for (int i = 0; i < SESSIONS; i++) {
-            size = commands = 0;
-            bytes((const uint8_t *)"PSG1", 4);
-            for (const char *c = sessions[i]; *c; c++)
-                command(number_of(*c), 0);
-            keep(&most_of_plays[i], least(plays, 0));
-        }
+        settle(number, PASSIGN_RULE_LOW_BYTE);
+        measure_all();
+        settle(number, PASSIGN_RULE_THREE_BYTES);
+        measure_all();
     }
     for (int i = 0; i < FUNCTIONS; i++)
         print(functions[i].name, most[i]);

@@ -1,9 +1,11 @@
 /* A marker: checks the signature in one file against the public key and the message in two others, and prints one row for the register,
-   "yes" or "no", ended by a line feed. A refusal prints no row.
+   "yes" or "no", ended by a line feed. A refusal prints no row. The rule that it checks under is the one that it is given: no file says under which
+   rule its signature was made.
    Exit status: 0 yes, 1 no, 2 refused, not readable or not written, with the reason on standard error. */
 #include "passign.h"
 #include <stdio.h>
 #include <stdlib.h>
+#include <string.h>
 
 /* One byte more than the longest message, so that a longer one is seen and refused. */
 enum { ROOM = PASSIGN_MAX_MESSAGE + 1 };
@@ -25,11 +27,23 @@ static void read_file(struct input *in, const char *name)
     }
 }
 
+/* A number of one byte, in decimal digits alone; whether it is a rule is for passign_check to say. */
+static uint8_t read_rule(const char *text)
+{
+    size_t digits = strspn(text, "0123456789");
+    if (digits < 1 || digits > 3 || text[digits] != '\0' || atoi(text) > UINT8_MAX) {
+        fprintf(stderr, "marker: '%s' is no rule: give 1 for the low byte of each evaluation in the hash, or 2 for all three bytes\n", text);
+        exit(2);
+    }
+    return (uint8_t)atoi(text);
+}
+
 static const char *meaning(uint32_t refusal)
 {
     switch (refusal) {
     case PASSIGN_WRONG_LENGTH: return "the public key or the signature is empty or not of its set's length, or the message has more than 65,535 bytes";
     case PASSIGN_WRONG_SET: return "the key's first byte is no set 0 to 4, or the signature's is another set";
+    case PASSIGN_WRONG_RULE: return "the rule is not 1 or 2: give the one that the signature was made under";
     case PASSIGN_WRONG_EXPONENTS: return "the public key's exponents are not strictly increasing in 1..N-1";
     case PASSIGN_WRONG_EVALUATION: return "an evaluation of the public key is not below q";
     case PASSIGN_WRONG_ENTRIES: return "a challenge index of the signature is not below N, or not increasing";
@@ -39,14 +53,15 @@ static const char *meaning(uint32_t refusal)
 
 int main(int argc, char **argv)
 {
-    if (argc != 4) {
-        fprintf(stderr, "usage: marker PUBLIC_KEY MESSAGE SIGNATURE\n");
+    if (argc != 5) {
+        fprintf(stderr, "usage: marker PUBLIC_KEY MESSAGE SIGNATURE RULE\n");
         return 2;
     }
+    uint8_t rule = read_rule(argv[4]);
     read_file(&key, argv[1]);
     read_file(&message, argv[2]);
     read_file(&signature, argv[3]);
-    uint32_t answer = passign_check(key.bytes, key.length, message.bytes, message.length, signature.bytes, signature.length);
+    uint32_t answer = passign_check(key.bytes, key.length, message.bytes, message.length, signature.bytes, signature.length, rule);
     if (answer == PASSIGN_YES || answer == PASSIGN_NO) {
         if (puts(answer == PASSIGN_YES ? "yes" : "no") == EOF || fflush(stdout) != 0) {
             fprintf(stderr, "marker: cannot write the row: see to standard output, and mark again\n");

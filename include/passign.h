@@ -13,6 +13,9 @@
      signature    the set, b challenge entries of two bytes, by strictly increasing index (in the low 15 bits; top bit 1 for -1), N coefficients of z
                   in two bytes, two's complement
 
+   A signature is made and checked under a rule, which says what of the commitment is hashed. Its encoding does not say under which rule it was made: the
+   caller must know. Under the other rule it is judged like anybody's, by that rule, and almost always gets a no.
+
    Set 0 is for work by hand: about one wrong message in forty gets a yes there. Do not mark with it.
 
      set   N     q        k      b   t    secret key  public key  signature (bytes)
@@ -37,6 +40,11 @@
 #define PASSIGN_NONE_PASSES 9      /* no mask, or none passes */
 #define PASSIGN_POOL_SPENT 11      /* fewer than b indices kept in all of the pool */
 #define PASSIGN_WRONG_ENTRIES 12   /* challenge index not below N, or not increasing */
+#define PASSIGN_WRONG_RULE 18      /* rule not 1 or 2 */
+
+/* The rules: what is hashed of the commitment, its t evaluations in 0..q-1, in order. */
+#define PASSIGN_RULE_LOW_BYTE 1    /* the low byte of each: commitments that differ by 256 in an evaluation hash alike */
+#define PASSIGN_RULE_THREE_BYTES 2 /* all three bytes of each, low byte first */
 
 /* What passign_check answers where it refuses nothing; passign_sign answers PASSIGN_SIGNED plus the number of masks passed over. */
 #define PASSIGN_NO 0
@@ -59,15 +67,15 @@
 extern "C" {
 #endif
 
-/* Checks a signature: PASSIGN_YES (256), PASSIGN_NO (0), else the refusal number (1, 2, 4, 7, 12). Only 256 is a yes. */
+/* Checks a signature under a rule: PASSIGN_YES (256), PASSIGN_NO (0), else the refusal number (1, 2, 18, 4, 7, 12). Only 256 is a yes. */
 uint32_t passign_check(const uint8_t *public_key, size_t public_key_length, const uint8_t *message, size_t message_length,
-                       const uint8_t *signature, size_t signature_length);
+                       const uint8_t *signature, size_t signature_length, uint8_t rule);
 
-/* Signs at t points with the first of 0 to 8 masks that passes, N numbers each, one after the other (masks_length is N times their number): 256 plus the
-   number of masks passed over, else the refusal number (1, 2, 4, 5, 6, 9). */
+/* Signs under a rule at t points with the first of 0 to 8 masks that passes, N numbers each, one after the other (masks_length is N times their number):
+   256 plus the number of masks passed over, else the refusal number (1, 2, 18, 4, 5, 6, 9). */
 uint32_t passign_sign(const uint8_t *secret_key, size_t secret_key_length, const uint16_t *points, size_t points_length,
                       const int16_t *masks, size_t masks_length, const uint8_t *message, size_t message_length,
-                      uint8_t *signature, size_t signature_length);
+                      uint8_t *signature, size_t signature_length, uint8_t rule);
 
 /* Writes the public key of a secret key at t points: 0, else the refusal number (1, 2, 4, 5). */
 uint32_t passign_public_key(const uint8_t *secret_key, size_t secret_key_length, const uint16_t *points, size_t points_length,

@@ -5,7 +5,9 @@ from array import array
 
 GUARD = bytes(range(0xA0, 0xE0))  # 64 bytes: keeps what follows aligned for every element
 
-# The element type (of module array) of each lent slice by its name, and of `out` by its entry; "set" is a number.
+NUMBERS = ("set", "rule")  # arguments of one byte
+
+# The element type (of module array) of each lent slice by its name, and of `out` by its entry.
 ELEMENTS = {"coefficients": "h", "points": "H", "pool": "B", "secret_key": "B", "masks": "h",
             "message": "B", "public_key": "B", "signature": "B", "key": "b", "evaluations": "I",
             "entries": "H", "z": "h"}
@@ -48,7 +50,7 @@ def load(path):
         function.restype = ctypes.c_uint32
         passed, lent = [], {}
         for argument, values in arguments.items():
-            if argument == "set":
+            if argument in NUMBERS:
                 passed.append(ctypes.c_uint8(values))
                 continue
             lent[argument] = Guarded(as_bytes(entry, argument, values))

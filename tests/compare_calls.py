@@ -3,19 +3,21 @@
 from collections import Counter, defaultdict
 
 import library_calls
-from c_library import GUARD, as_bytes, from_bytes
+from c_library import GUARD, NUMBERS, as_bytes, from_bytes
 from challenge_weight import Challenges
 from reference import library
+from reference.challenge import RULES
 from reference.parameters import SETS
 
 REFUSALS = {"evaluate": {2, 1, 4}, "evaluate_all": {2, 1}, "draw": {2, 1, 11}, "public_key": {1, 2, 4, 5},
-            "sign": {1, 2, 4, 5, 6, 9}, "check": {1, 2, 4, 7, 12},
+            "sign": {1, 2, 18, 4, 5, 6, 9}, "check": {1, 2, 18, 4, 7, 12},
             "read_secret_key": {1, 2, 5}, "write_secret_key": {2, 1, 5},
             "read_public_key": {1, 2, 4, 7}, "write_public_key": {2, 1, 4, 7},
             "read_signature": {1, 2, 12}, "write_signature": {2, 1, 12}}
 ACCEPTED = {"sign": {256}, "check": {0, 256}}  # 0 for all others
 ALL_PASSED_OVER = set(range(256, 264))
 EVALUATORS = ("evaluate", "evaluate_all")
+TAKE_A_RULE, NO_RULES = ("sign", "check"), (0, 3, 255)
 
 
 def writable(name, values):
@@ -28,7 +30,7 @@ def expected(call):
     lent = {name: writable(name, values) for name, values in call.arguments.items()}
     answer = getattr(library, call.entry)(*lent.values())
     after = {name: GUARD + as_bytes(call.entry, name, values) + GUARD
-             for name, values in lent.items() if name != "set"}
+             for name, values in lent.items() if name not in NUMBERS}
     return answer, after
 
 
@@ -79,6 +81,27 @@ def missing(counts, ends):
     return gaps + [f"sign never answers {answer}" for answer in sorted(ALL_PASSED_OVER - signed)]
 
 
+def missing_by_rule(by_rule):
+    """What no call gave under a rule: each answer; and in each set those that accept. For what is no rule 18 and those before it; and in each set 18."""
+    gaps = []
+    for entry in TAKE_A_RULE:
+        for rule in (*RULES, *NO_RULES):
+            everywhere = REFUSALS[entry] - {18} | ACCEPTED[entry] if rule in RULES else {1, 2, 18}
+            in_each = ACCEPTED[entry] if rule in RULES else {18}
+            found = {s.number: set(by_rule.get((entry, rule, s.number), ())) for s in SETS}
+            gaps += [f"{entry} under rule {rule} never answers {answer}" for answer in sorted(everywhere - set().union(*found.values()))]
+            gaps += [f"{entry} under rule {rule} in set {number} never answers {answer}" for number in found for answer in sorted(in_each - found[number])]
+    return gaps
+
+
+def print_rules(by_rule):
+    given = defaultdict(Counter)
+    for (entry, rule, _), answers in by_rule.items():
+        given[entry][rule] += sum(answers.values())
+    for entry, rules in given.items():
+        print(f"  {entry} is given the rules " + ", ".join(f"{rule}: {count}" for rule, count in sorted(rules.items())))
+
+
 def print_counts(counts):
     for entry in REFUSALS:
         total = sum((counts[entry, s.number] for s in SETS), Counter())
@@ -89,12 +112,14 @@ def print_counts(counts):
 
 def run(seed, kit_call, only=None):
     """True when all agree. Without kit_call the reference runs alone, for the coverage."""
-    counts, ends, challenges = defaultdict(Counter), defaultdict(set), Challenges()
+    counts, by_rule, ends, challenges = defaultdict(Counter), defaultdict(Counter), defaultdict(set), Challenges()
     for name in [only] if only else library_calls.names():
         call = library_calls.make(seed, name)
         answer, after = expected(call)
         number = int(name.split("/")[1])
         counts[call.entry, number][answer] += 1
+        if call.entry in TAKE_A_RULE:
+            by_rule[call.entry, call.arguments["rule"], number][answer] += 1
         if call.entry in EVALUATORS and answer == 0:
             ends[call.entry, number] |= ends_in(SETS[number], call.entry, after)
         text = difference(call, kit_call, answer, after) if kit_call else None
@@ -103,10 +128,11 @@ def run(seed, kit_call, only=None):
         if text:
             report(call, seed, text)
             return False
-    gaps = [] if only else missing(counts, ends) + challenges.missing()
+    gaps = [] if only else missing(counts, ends) + missing_by_rule(by_rule) + challenges.missing()
     for gap in gaps:
         print(f"library: NOT COVERED: {gap}")
     print_counts(counts)
+    print_rules(by_rule)
     challenges.print()
     called = sum(sum(count.values()) for count in counts.values())
     against = "agree with the reference" if kit_call else "of the reference alone"

@@ -1,20 +1,23 @@
-"""Each session through the kit's program and through the reference: every printed byte must agree, and the rows must give each key its account."""
+"""Each session through the kit's program and through the reference: every printed byte must agree, and the rows must give each key its account and be by
+the rule in force."""
 
 import subprocess
 from collections import Counter
 
 import key_life
+import rule_in_force
 import sessions
 from reference.parameters import SETS
 from reference.session import play_to_the_end
 
 REFUSED_ROWS = {"01 2", "02 4", "03 10", "03 5", "04 8", "04 6", "06 10", "06 17", "06 9", "07 10", "07 12",
-                "08 10", "08 7", "0A 10", "00 16", "00 13 where a command is due", "0 00 1", "0 00 15"}
+                "08 10", "08 7", "0A 10", "0B 18", "00 16", "00 13 where a command is due", "0 00 1", "0 00 15"}
 REFUSED_ROWS |= {f"{command:02X} 3" for command in (*range(2, 9), 10)}
-REFUSED_ROWS |= {f"{command:02X} 13" for command in (1, 2, 3, 4, 5, 7, 8, 10)}
+REFUSED_ROWS |= {f"{command:02X} 13" for command in (1, 2, 3, 4, 5, 7, 8, 10, 11)}
 ACCEPTED_ROWS = {"00 0", "01 0", "02 0", "03 0 evaluations", "04 0", "05 0", "06 0 first mask",
-                 "06 0 passed over", "07 0 yes", "07 0 no", "08 0", "0A 0"}
+                 "06 0 passed over", "07 0 yes", "07 0 no", "08 0", "0A 0", "0B 0"}
 ENDS = {"03 0 with (q-1)/2": 1, "03 0 with -(q-1)/2": -1}
+READINGS = (key_life, rule_in_force)
 
 
 def form(row):
@@ -40,8 +43,9 @@ def ends_in(row, s):
 def missing(forms, by_set):
     wanted = REFUSED_ROWS | ACCEPTED_ROWS | {"14"}
     gaps = [f"no row of form '{text}'" for text in sorted(wanted - set(forms))]
+    in_each = ACCEPTED_ROWS.union(ENDS, *(reading.SITUATIONS for reading in READINGS))
     for number, seen in by_set.items():
-        gaps += [f"no row of form '{text}' in set {number}" for text in sorted((ACCEPTED_ROWS | set(ENDS) | key_life.SITUATIONS) - seen)]
+        gaps += [f"no row of form '{text}' in set {number}" for text in sorted(in_each - seen)]
     return gaps
 
 
@@ -67,11 +71,14 @@ def run(seed, program, only=None):
         rows, number = wanted.decode().splitlines(), int(name.split("/")[0])
         seen = [form(row) for row in rows]
         forms.update(seen)
-        situations, fault = key_life.read(file, rows)
-        if fault:
-            report(name, seed, file, fault)
-            return False
-        by_set.setdefault(number, set()).update(seen, situations, *(ends_in(row, SETS[number]) for row in rows))
+        in_set = by_set.setdefault(number, set())
+        in_set.update(seen, *(ends_in(row, SETS[number]) for row in rows))
+        for reading in READINGS:
+            situations, fault = reading.read(file, rows)
+            in_set |= situations
+            if fault:
+                report(name, seed, file, fault)
+                return False
         played += 1
         if program:
             done = subprocess.run([program], input=file, stdout=subprocess.PIPE)

@@ -47,6 +47,15 @@ def set_numbers():
             "set of another": change(lambda rng: rng.randrange(5))}
 
 
+def rules():
+    """Numbers that are a rule, whichever the call had, and numbers that are none."""
+    def change(rule):
+        def to_rule(rng, s, arguments):
+            arguments["rule"] = rule
+        return to_rule
+    return {f"rule {rule}": change(rule) for rule in (0, 1, 2, 3, 255)}
+
+
 def set_bytes(name):
     def change(number):
         def to_number(rng, s, arguments):
@@ -275,9 +284,9 @@ DAMAGES = {
     "sign": {**SECRET_KEYS, **point_lists(), **longer_or_shorter("points", "masks", "out"),
              **coefficients("masks", MASK_EDGES), "no mask": no_mask, "nine masks": nine_masks,
              "bad mask last": bad_last_mask, "message too long": message_too_long,
-             "message longest": message_longest},
+             "message longest": message_longest, **rules()},
     "check": {**PUBLIC_KEYS, **SIGNATURES, "message too long": message_too_long,
-              "message longest": message_longest, "message other": message_other},
+              "message longest": message_longest, "message other": message_other, **rules()},
     "read_secret_key": {**SECRET_KEYS, **flip("secret_key"), **longer_or_shorter("out")},
     "write_secret_key": {**set_numbers(), **coefficients("key", I8_EDGES), **longer_or_shorter("key", "out")},
     "read_public_key": {**PUBLIC_KEYS, **longer_or_shorter("points", "evaluations")},

@@ -1,7 +1,7 @@
 /* Calls passign_check and passign_sign as tests/fuzz says on standard input, and writes what they answer. Each slice ends where a page begins that
    may not be touched, so that a byte read or written behind it ends the program; a byte changed before it ends it with status 3.
-   A call: a byte, 'c' or 's', then each slice: its length in bytes (four bytes, low byte first) and its bytes. The answer: four bytes, then for 's' the
-   signature buffer. */
+   A call: a byte, 'c' or 's', the rule, then each slice: its length in bytes (four bytes, low byte first) and its bytes. The answer: four bytes, then for
+   's' the signature buffer. */
 #include "passign.h"
 #include <stdio.h>
 #include <stdlib.h>
@@ -48,6 +48,7 @@ static void answer(uint32_t number, const struct slice *written)
 int main(void)
 {
     int kind;
+    uint8_t rule;
     for (int i = 0; i < SLICES; i++) {
         uint8_t *memory = mmap(NULL, ROOM + PAGE, PROT_READ | PROT_WRITE, MAP_PRIVATE | MAP_ANONYMOUS, -1, 0);
         slices[i].end = memory + ROOM;
@@ -57,13 +58,15 @@ int main(void)
     struct slice *a = slices;
     while ((kind = getchar()) != EOF) {
         int count = kind == 'c' ? 3 : SLICES;
+        if (!read_bytes(&rule, 1))
+            return 2;
         for (int i = 0; i < count; i++)
             lend(&a[i]);
         if (kind == 'c')
-            answer(passign_check(a[0].start, a[0].length, a[1].start, a[1].length, a[2].start, a[2].length), NULL);
+            answer(passign_check(a[0].start, a[0].length, a[1].start, a[1].length, a[2].start, a[2].length, rule), NULL);
         else
             answer(passign_sign(a[0].start, a[0].length, (const uint16_t *)a[1].start, a[1].length / 2, (const int16_t *)a[2].start,
-                                a[2].length / 2, a[3].start, a[3].length, a[4].start, a[4].length), &a[4]);
+                                a[2].length / 2, a[3].start, a[3].length, a[4].start, a[4].length, rule), &a[4]);
         for (int i = 0; i < count; i++)
             see_before(&a[i]);
     }

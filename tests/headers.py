@@ -1,5 +1,5 @@
-"""The C headers against the functions that the crates export: names, order and types of the arguments, and results; and the refusal numbers by name.
-No compiler sees both sides."""
+"""The C headers against the functions that the crates export: names, order and types of the arguments, and results; and the refusal numbers and the
+rules by name. No compiler sees both sides."""
 
 import re
 
@@ -43,21 +43,37 @@ def in_capitals(name):
     return re.sub(r"[A-Z]", lambda letter: "_" + letter.group(), name).upper()
 
 
-def numbers_agree():
-    """The refusal numbers by name: of the definitions, of the code, and those of the header, which has the library's."""
-    definitions = {in_capitals(name): number for name, number in
-                   re.findall(r"^(\w+) = (\d+)$", (REPOSITORY / "crates/refusal/specs/Numbers.antt").read_text(), re.MULTILINE)}
-    code = dict(re.findall(r"pub const (\w+): u32 = (\d+);", (REPOSITORY / "crates/refusal/src/lib.rt").read_text()))
-    header = {name: number for name, number in re.findall(r"#define PASSIGN_(\w+) (\d+)", (REPOSITORY / "include/passign.h").read_text()) if name in code}
-    if definitions != code or len(header) != 9 or any(code[name] != number for name, number in header.items()):
-        print(f"headers: DIFFERENCE in refusal numbers: definitions {definitions}, code {code}, header {header}")
-        return False
-    return True
+def numbers_in(path, pattern):
+    return dict(re.findall(pattern, (REPOSITORY / path).read_text(), re.MULTILINE))
+
+
+def agree(what, definitions, code, in_header):
+    """Whether these numbers by name are those of the code, and those of the header, which has so many of them, too."""
+    header = {name: number for name, number in numbers_in("include/passign.h", r"#define PASSIGN_(\w+) (\d+)").items() if name in code}
+    if definitions == code and len(header) == in_header and all(code[name] == number for name, number in header.items()):
+        return True
+    print(f"headers: DIFFERENCE in {what}: definitions {definitions}, code {code}, header {header}")
+    return False
+
+
+def refusals_agree():
+    """The header has those of the library."""
+    definitions = numbers_in("crates/refusal/specs/Numbers.antt", r"^(\w+) = (\d+)$")
+    code = numbers_in("crates/refusal/src/lib.rt", r"pub const (\w+): u32 = (\d+);")
+    return agree("refusal numbers", {in_capitals(name): number for name, number in definitions.items()}, code, 10)
+
+
+def rules_agree():
+    """lowByteRule of the definitions is RULE_LOW_BYTE of the code, threeByteRule is RULE_THREE_BYTES."""
+    definitions = numbers_in("crates/challenge/specs/Pool.antt", r"^(\w+)Rule = (\d+)$")
+    code = numbers_in("crates/challenge/src/lib.rt", r"pub const (RULE_\w+): u8 = (\d+);")
+    names = {"lowByte": "RULE_LOW_BYTE", "threeByte": "RULE_THREE_BYTES"}
+    return agree("rules", {names.get(name, name): number for name, number in definitions.items()}, code, 2)
 
 
 def run():
     """True when all agree."""
-    if not numbers_agree():
+    if not refusals_agree() or not rules_agree():
         return False
     count = 0
     for header, crate in HEADERS.items():

@@ -4,8 +4,7 @@ While a key is held, the signatures given since its loading and those left are t
 what is left, and with it which 06 must be refused with 17.
 """
 
-from reference.parameters import SETS
-from reference.session import TAG_BYTES, operand_length
+from commands_played import commands
 
 NOT_HELD, NO_MASK_PASSES, NONE_LEFT = 10, 9, 17
 SITUATIONS = {"17 with a mask held", "17 without a mask", "10 where none is left", "9 with one left", "signed with one left", "signed with more left",
@@ -25,7 +24,7 @@ class Loading:
 
 class Reader:
     def __init__(self):
-        self.set = self.loading = None
+        self.loading = None
         self.message, self.masks = False, 0
         self.seen = set()
 
@@ -60,7 +59,7 @@ class Reader:
         self.saw("granted to a spent key", key.left == 0)
         key.granted, key.before, key.grants = value, key.given, key.grants + 1
 
-    def loads_or_forgets(self, command, number, operand):
+    def loads_or_forgets(self, command, number):
         """01, 02, 03, 04, 05 and 08."""
         key = self.loading
         if number:
@@ -76,25 +75,19 @@ class Reader:
             self.saw(f"{command:02X} forgets a grant", key is not None and key.grants > 0)
             self.loading = None
             if command == 0x01:
-                self.set, self.message, self.masks = SETS[operand[0]], False, 0
+                self.message, self.masks = False, 0
 
 
 def read(file, rows):
     """The situations met, and the first row that the account does not allow, or None."""
-    reader, place = Reader(), len(TAG_BYTES)
-    for row in rows:
-        ordinal, command, number, *fields = row.split(" ")
-        command, number = int(command, 16), int(number)
-        if ordinal == "0" or command == 0x00 or number in (1, 3, 13, 14, 15, 16):
-            break
-        operand = file[place + 1:place + 1 + operand_length(reader.set, command)]
-        place += 1 + len(operand)
+    reader = Reader()
+    for row, command, operand, number, fields in commands(file, rows):
         if command == 0x06:
             due = reader.six(number, int(fields[0]) if number == 0 else 0)
             if number != due if due else number not in (0, NO_MASK_PASSES):
                 return reader.seen, f"row '{row[:40]}': the account has {due or 'no refusal but 9'}"
         elif command == 0x0A:
             reader.granted(number, operand)
-        elif command != 0x07:
-            reader.loads_or_forgets(command, number, operand)
+        elif command not in (0x07, 0x0B):
+            reader.loads_or_forgets(command, number)
     return reader.seen, None

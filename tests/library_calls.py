@@ -13,7 +13,7 @@ import codec_calls
 import material
 from damages import DAMAGES
 from reference import encodings
-from reference.challenge import skip_bound
+from reference.challenge import RULES, skip_bound
 from reference.parameters import SETS
 
 
@@ -60,32 +60,37 @@ def public_key(rng, s):
             "points": material.points(rng, s), "out": rng.randbytes(encodings.public_key_length(s))}
 
 
+def signer(rng, s):
+    """A key, points, a message and a rule."""
+    return material.key(rng, s), material.points(rng, s), material.message(rng), material.any_rule(rng)
+
+
 def sign(rng, s):
     masks = [material.mask(rng, s) for _ in range(rng.choice((1, 1, 2, 3, 8)))]
-    f, at = material.key(rng, s), material.points(rng, s)
-    return with_masks(rng, s, f, at, masks, material.message(rng))
+    f, at, text, rule = signer(rng, s)
+    return with_masks(rng, s, f, at, masks, text, rule)
 
 
-def with_masks(rng, s, f, at, masks, message):
+def with_masks(rng, s, f, at, masks, message, rule):
     return {"secret_key": encodings.write_secret_key(s, f), "points": at,
             "masks": [value for y in masks for value in y], "message": message,
-            "out": rng.randbytes(encodings.signature_length(s))}
+            "out": rng.randbytes(encodings.signature_length(s)), "rule": rule}
 
 
 def check(rng, s):
-    f, at, text = material.key(rng, s), material.points(rng, s), material.message(rng)
-    return with_signature(s, f, at, text, material.signature(rng, s, f, at, text))
+    f, at, text, rule = signer(rng, s)
+    return with_signature(s, f, at, text, material.signature(rng, s, f, at, text, rule), rule)
 
 
-def with_signature(s, f, at, text, signature):
-    return {"public_key": material.public_key(s, f, at), "message": text, "signature": signature}
+def with_signature(s, f, at, text, signature, rule):
+    return {"public_key": material.public_key(s, f, at), "message": text, "signature": signature, "rule": rule}
 
 
 GOOD = {"evaluate": evaluate, "evaluate_all": evaluate_all, "draw": draw, "public_key": public_key, "sign": sign, "check": check,
         **codec_calls.GOOD}
 
 
-# ── Calls made for one rule ─────────────────────────────────────────────────────────────────────
+# ── Calls made for one case ─────────────────────────────────────────────────────────────────────
 
 def corners(make, of=""):
     """A kind of call for each of material.CORNERS: make(rng, s, corner) makes it."""
@@ -171,18 +176,18 @@ def draw_about_the_skip_bound(rng, s):
 
 def sign_after_failing(rng, s):
     """Masks that are passed over, then one that passes, then any."""
-    f, at, text = material.key(rng, s), material.points(rng, s), material.message(rng)
+    f, at, text, rule = signer(rng, s)
     failing = rng.randint(1, 7)
-    masks = [material.failing_mask(rng, s, f, at, text) for _ in range(failing)]
+    masks = [material.failing_mask(rng, s, f, at, text, rule) for _ in range(failing)]
     masks.append(material.passing_mask(rng, s))
     masks += [material.mask(rng, s) for _ in range(rng.randint(0, 8 - len(masks)))]
-    return with_masks(rng, s, f, at, masks, text)
+    return with_masks(rng, s, f, at, masks, text, rule)
 
 
 def sign_none_passes(rng, s):
-    f, at, text = material.key(rng, s), material.points(rng, s), material.message(rng)
-    masks = [material.failing_mask(rng, s, f, at, text) for _ in range(rng.choice((1, 2, 8)))]
-    return with_masks(rng, s, f, at, masks, text)
+    f, at, text, rule = signer(rng, s)
+    masks = [material.failing_mask(rng, s, f, at, text, rule) for _ in range(rng.choice((1, 2, 8)))]
+    return with_masks(rng, s, f, at, masks, text, rule)
 
 
 def sign_at_the_edge(rng, s):
@@ -190,60 +195,82 @@ def sign_at_the_edge(rng, s):
     y = material.passing_mask(rng, s)
     y[rng.randrange(s.N)] = rng.choice((-1, 1)) * (s.k - s.b + rng.randint(-1, 2))
     masks = [y, material.passing_mask(rng, s)]
-    f, at = material.sparse_key(rng, s), material.points(rng, s)
-    return with_masks(rng, s, f, at, masks, material.message(rng))
+    _, at, text, rule = signer(rng, s)
+    return with_masks(rng, s, material.sparse_key(rng, s), at, masks, text, rule)
 
 
 def sign_tight(rng, s):
     masks = [material.tight_mask(rng, s) for _ in range(rng.randint(1, 4))]
-    f, at = material.key(rng, s), material.points(rng, s)
-    return with_masks(rng, s, f, at, masks, material.message(rng))
+    f, at, text, rule = signer(rng, s)
+    return with_masks(rng, s, f, at, masks, text, rule)
+
+
+def sign_passing_under(rule):
+    """A mask that passes under this rule alone, then one that passes: under the other rule the first is passed over."""
+    def make(rng, s):
+        _, at, text, used = signer(rng, s)
+        f = material.dense_key(rng, s)
+        masks = [material.mask_passing_alone(rng, s, f, at, text, rule), material.passing_mask(rng, s)]
+        return with_masks(rng, s, f, at, masks, text, used)
+    return make
 
 
 def sign_key_corner(rng, s, corner):
     masks = [material.tight_mask(rng, s), material.passing_mask(rng, s)]
-    return with_masks(rng, s, corner(rng, s, -1, 1), material.points_with_ends(rng, s), masks, material.message(rng))
+    _, _, text, rule = signer(rng, s)
+    return with_masks(rng, s, corner(rng, s, -1, 1), material.points_with_ends(rng, s), masks, text, rule)
 
 
 def sign_mask_corner(rng, s, corner):
     """A mask within k, most often passed over, then one within k - 2b, which passes whatever key and challenge are."""
     masks = [corner(rng, s, -bound, bound) for bound in (s.k, s.k - 2 * s.b)]
-    return with_masks(rng, s, material.key(rng, s), material.points_with_ends(rng, s), masks, material.message(rng))
+    f, _, text, rule = signer(rng, s)
+    return with_masks(rng, s, f, material.points_with_ends(rng, s), masks, text, rule)
 
 
 def check_at(beyond):
     """z at k - b, or beyond it with a challenge that fits: a no for its range alone."""
     def make(rng, s):
-        at, text = material.points(rng, s), material.message(rng)
-        f, signature = material.edge_signature(rng, s, at, text, beyond)
-        return with_signature(s, f, at, text, signature)
+        _, at, text, rule = signer(rng, s)
+        f, signature = material.edge_signature(rng, s, at, text, beyond, rule)
+        return with_signature(s, f, at, text, signature, rule)
     return make
 
 
 def check_of_another_key(rng, s):
-    f, other = material.key(rng, s), material.key(rng, s)
-    at, text = material.points(rng, s), material.message(rng)
-    return with_signature(s, other, at, text, material.signature(rng, s, f, at, text))
+    f, at, text, rule = signer(rng, s)
+    return with_signature(s, material.key(rng, s), at, text, material.signature(rng, s, f, at, text, rule), rule)
+
+
+def check_made_under(made_under):
+    """A signature made under this rule, checked under the other."""
+    def make(rng, s):
+        f, at, text, _ = signer(rng, s)
+        return with_signature(s, f, at, text, material.signature(rng, s, f, at, text, made_under), material.other_rule(made_under))
+    return make
 
 
 def check_key_corner(rng, s, corner):
-    f, at, text = corner(rng, s, -1, 1), material.points_with_ends(rng, s), material.message(rng)
-    return with_signature(s, f, at, text, material.signature(rng, s, f, at, text))
+    _, _, text, rule = signer(rng, s)
+    f, at = corner(rng, s, -1, 1), material.points_with_ends(rng, s)
+    return with_signature(s, f, at, text, material.signature(rng, s, f, at, text, rule), rule)
 
 
 def check_z_corner(rng, s, corner):
     """A yes up to the ends of the range: with a key of zeros the mask is z."""
-    f, at, text = [0] * s.N, material.points_with_ends(rng, s), material.message(rng)
+    _, _, text, rule = signer(rng, s)
+    f, at = [0] * s.N, material.points_with_ends(rng, s)
     z = corner(rng, s, s.b - s.k, s.k - s.b)
-    return with_signature(s, f, at, text, material.passing_signature(s, f, at, z, text))
+    return with_signature(s, f, at, text, material.passing_signature(s, f, at, z, text, rule), rule)
 
 
 def check_drawn(wanted):
     """A yes to a challenge as wanted."""
     def make(rng, s):
-        f, at, y = material.key(rng, s), material.points_with_ends(rng, s), material.passing_mask(rng, s)
-        text = material.message_drawing(rng, s, at, y, wanted)
-        return with_signature(s, f, at, text, material.passing_signature(s, f, at, y, text))
+        f, _, _, rule = signer(rng, s)
+        at, y = material.points_with_ends(rng, s), material.passing_mask(rng, s)
+        text = material.message_drawing(rng, s, at, y, wanted, rule)
+        return with_signature(s, f, at, text, material.passing_signature(s, f, at, y, text, rule), rule)
     return make
 
 
@@ -252,16 +279,16 @@ def check_in_a_row(first, sign):
     def make(rng, s):
         entries = [i | sign for i in range(first(s), first(s) + s.b)]
         signature = encodings.write_entries(s, entries, material.within(rng, s, s.k - s.b))
-        f, at = material.key(rng, s), material.points_with_ends(rng, s)
-        return with_signature(s, f, at, material.message(rng), signature)
+        f, _, text, rule = signer(rng, s)
+        return with_signature(s, f, material.points_with_ends(rng, s), text, signature, rule)
     return make
 
 
 def check_any_bytes(rng, s):
     """Entries in order and z in range, but nobody signed."""
     signature = encodings.write_entries(s, material.entries(rng, s), material.within(rng, s, s.k - s.b))
-    f, at = material.key(rng, s), material.points(rng, s)
-    return with_signature(s, f, at, material.message(rng), signature)
+    f, at, text, rule = signer(rng, s)
+    return with_signature(s, f, at, text, signature, rule)
 
 
 SPECIAL = {
@@ -271,9 +298,11 @@ SPECIAL = {
     "draw": {"zeros": draw_zeros, "wrong pool": draw_wrong_pool, "skip bound": draw_about_the_skip_bound, **draws_at_the_last_value()},
     "sign": {"after failing": sign_after_failing, "none passes": sign_none_passes,
              "edge": sign_at_the_edge, "tight": sign_tight,
+             **{f"passing under {rule} alone": sign_passing_under(rule) for rule in RULES},
              **corners(sign_key_corner, "key "), **corners(sign_mask_corner, "mask ")},
     "check": {"z at k-b": check_at(0), "z at k-b+1": check_at(1), "z at k-b+2": check_at(2),
               "another key": check_of_another_key, "any bytes": check_any_bytes,
+              **{f"made under {rule}, checked under the other": check_made_under(rule) for rule in RULES},
               **corners(check_key_corner, "key "), **corners(check_z_corner, "z "),
               **{f"drawn {kind}": check_drawn(wanted) for kind, wanted in material.CHALLENGES.items()},
               "first indices": check_in_a_row(lambda s: 0, 0), "first indices, -1": check_in_a_row(lambda s: 0, 0x8000),

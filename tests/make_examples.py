@@ -2,8 +2,8 @@
 """Writes examples/: the same bytes each time.
 
 sessions/: document 01's session, and for each set one in which a mask is passed over, a signature is accepted and the check says yes; key-life
-shows what 0A does. Each NAME.session has its rows beside it, NAME.rows, as the reference plays it.
-marker/: a public key, a message and a signature of set 1 that the check says yes to.
+shows what 0A does, rules what 0B does. Each NAME.session has its rows beside it, NAME.rows, as the reference plays it.
+marker/: a public key, a message and two signatures of set 1: the check says yes to `signature` under rule 1, and to `signature-rule-2` under rule 2.
 """
 
 import sys
@@ -17,6 +17,7 @@ sys.path.insert(0, str(TESTS))
 import material  # noqa: E402
 import sessions  # noqa: E402
 from reference import encodings  # noqa: E402
+from reference.challenge import LOW_BYTE_RULE, THREE_BYTE_RULE  # noqa: E402
 from reference.parameters import SETS  # noqa: E402
 from reference.session import play_to_the_end  # noqa: E402
 from reference.test_document import TRANSCRIPT_FILE  # noqa: E402
@@ -25,7 +26,7 @@ from reference.test_document import TRANSCRIPT_FILE  # noqa: E402
 def signed_and_checked(s):
     w = sessions.begun(Random(f"example of set {s.number}"), s)
     held = w.session
-    for y in (material.failing_mask(w.rng, s, held.key, held.points, held.message), material.passing_mask(w.rng, s)):
+    for y in (material.failing_mask(w.rng, s, held.key, held.points, held.message, held.rule), material.passing_mask(w.rng, s)):
         w.add(0x04, encodings.number_bytes(y, 2, signed=True))
     w.add(0x06)
     w.add(0x07, w.signature)
@@ -41,9 +42,33 @@ def life_of_a_key(file):
     return b"".join((start, one, key, none, sign, message, sign, masks, sign, wrong_key, sign, one, sign, sign, key, sign, b"\0"))
 
 
+def add_all(w, *commands):
+    for command, operand in commands:
+        w.add(command, operand)
+
+
+def under_each_rule(file):
+    """With what a session of set 0 loads: 0B before any set, which 18 and 01 leave in force; a 06 under each rule, the masks held before both; each
+    signature checked under both rules. The mask that signs under 2 would be passed over under 1."""
+    w = sessions.Writer(Random("example of the rules"), SETS[0])
+    points, key, message, mask = (0x02, file[7:11]), (0x03, file[12:17]), (0x05, file[18:82]), (0x04, file[94:104])
+    one, two, none = (0x0B, b"\1"), (0x0B, b"\2"), (0x0B, b"\3")
+    add_all(w, two, none, (0x01, b"\0"), points, key, message)
+    held = w.session
+    y = material.mask_passing_alone(w.rng, held.set, held.key, held.points, held.message, THREE_BYTE_RULE)
+    add_all(w, (0x04, encodings.number_bytes(y, 2, signed=True)), mask, (0x06, b""))
+    made_under_two = (0x07, w.signature)
+    add_all(w, made_under_two, one, made_under_two, (0x06, b""))
+    made_under_one = (0x07, w.signature)
+    public = (0x08, encodings.number_bytes(held.evaluations, 3))
+    add_all(w, made_under_one, two, made_under_one, (0x01, b"\0"), points, public, message, made_under_two, (0x00, b""))
+    return bytes(w.file)
+
+
 def examples():
     yield "document", TRANSCRIPT_FILE
     yield "key-life", life_of_a_key(signed_and_checked(SETS[0]))
+    yield "rules", under_each_rule(signed_and_checked(SETS[0]))
     for s in SETS:
         yield f"set-{s.number}", signed_and_checked(s)
 
@@ -53,7 +78,8 @@ def for_the_marker(s):
     f, at, text = material.key(rng, s), material.points(rng, s), b"Unit four, exercise 17\n"
     yield "public_key", material.public_key(s, f, at)
     yield "message", text
-    yield "signature", material.signature(rng, s, f, at, text)
+    yield "signature", material.signature(rng, s, f, at, text, LOW_BYTE_RULE)
+    yield "signature-rule-2", material.signature(rng, s, f, at, text, THREE_BYTE_RULE)
 
 
 def main():

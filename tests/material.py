@@ -3,7 +3,7 @@
 from math import isqrt
 
 from reference import encodings, signing
-from reference.challenge import draw, pool_of
+from reference.challenge import LOW_BYTE_RULE, RULES, THREE_BYTE_RULE, draw, pool_of
 from reference.parameters import powers
 from reference.polynomials import centred, evaluation, evaluation_residues
 
@@ -102,6 +102,14 @@ def key(rng, s):
     return [rng.randint(-1, 1) for _ in range(s.N)]
 
 
+def dense_key(rng, s):
+    """Not all 0."""
+    while True:
+        f = [rng.randint(-1, 1) for _ in range(s.N)]
+        if any(f):
+            return f
+
+
 def key_evaluating_to(rng, s, j, target):
     """A key with this evaluation at exponent j: any key with two coefficients put right."""
     while True:
@@ -157,12 +165,28 @@ def mask(rng, s):
     return make(rng, s)
 
 
-def failing_mask(rng, s, f, at, message):
+def failing_mask(rng, s, f, at, message, rule):
     """A mask that is passed over, found by trying."""
     while True:
         y = rng.choice((corner_mask, tight_mask))(rng, s)
-        if signing.try_mask(s, f, at, y, message) is None:
+        if signing.try_mask(s, f, at, y, message, rule) is None:
             return y
+
+
+def mask_passing_alone(rng, s, f, at, message, rule):
+    """A mask that passes under this rule and not under the other, found by trying. The key is not all 0: with that one all depends on the mask."""
+    while True:
+        y = tight_mask(rng, s)
+        if signing.try_mask(s, f, at, y, message, rule) and not signing.try_mask(s, f, at, y, message, other_rule(rule)):
+            return y
+
+
+def any_rule(rng):
+    return rng.choice(RULES)
+
+
+def other_rule(rule):
+    return {LOW_BYTE_RULE: THREE_BYTE_RULE, THREE_BYTE_RULE: LOW_BYTE_RULE}[rule]
 
 
 def message(rng):
@@ -190,31 +214,31 @@ def entries(rng, s):
     return [i | rng.choice((0, 0x8000)) for i in indices]
 
 
-def unranged_signature(s, f, at, y, text):
+def unranged_signature(s, f, at, y, text, rule):
     """The challenge and point of a mask, whether z is in range or not: the challenge always fits."""
-    c = draw(s, pool_of(evaluation_residues(s, y, at), text))
+    c = draw(s, pool_of(evaluation_residues(s, y, at), text, rule))
     return c, signing.point(s, f, c, y)
 
 
-def edge_signature(rng, s, at, text, beyond):
+def edge_signature(rng, s, at, text, beyond, rule):
     """A key and a signature whose challenge fits and whose largest |z| is just k - b + beyond."""
     while True:
         f = sparse_key(rng, s)
         y = passing_mask(rng, s)
         y[rng.randrange(s.N)] = rng.choice((-1, 1)) * (s.k - s.b + beyond)
-        c, z = unranged_signature(s, f, at, y, text)
+        c, z = unranged_signature(s, f, at, y, text, rule)
         if c is not None and max(map(abs, z)) == s.k - s.b + beyond:
             return f, encodings.write_signature(s, c, z)
 
 
-def signature(rng, s, f, at, text):
-    """One that the check says yes to."""
-    return passing_signature(s, f, at, passing_mask(rng, s), text)
+def signature(rng, s, f, at, text, rule):
+    """One that the check says yes to under this rule."""
+    return passing_signature(s, f, at, passing_mask(rng, s), text, rule)
 
 
-def passing_signature(s, f, at, y, text):
-    """One that the check says yes to, of a mask that passes."""
-    return encodings.write_signature(s, *unranged_signature(s, f, at, y, text))
+def passing_signature(s, f, at, y, text, rule):
+    """The same, of a mask that passes."""
+    return encodings.write_signature(s, *unranged_signature(s, f, at, y, text, rule))
 
 
 # ── Challenges ──────────────────────────────────────────────────────────────────────────────────
@@ -242,11 +266,11 @@ def mostly(sign):
 CHALLENGES = {"index 0": has_first, "index N-1": has_last, "neighbours": has_neighbours, "mostly positive": mostly(1), "mostly negative": mostly(-1)}
 
 
-def message_drawing(rng, s, at, y, wanted):
+def message_drawing(rng, s, at, y, wanted, rule):
     """A message with which this mask draws a challenge as wanted, found by trying."""
     commitment = evaluation_residues(s, y, at)
     while True:
         text = rng.randbytes(64)
-        c = draw(s, pool_of(commitment, text))
+        c = draw(s, pool_of(commitment, text, rule))
         if c is not None and wanted(s, c):
             return text

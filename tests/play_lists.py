@@ -1,28 +1,38 @@
 """Lists of plays with any row buffers and swapped files, through crate harness and through the reference: answers and all memory around the
-row buffers must agree."""
+row buffers must agree. In every set some sign and check under each rule."""
 
 import ctypes
 from collections import Counter
 from random import Random
 
 import sessions
+from reference.challenge import RULES
+from reference.parameters import SETS
 from reference.session import HAS_ENDED, ROW_BUFFER_AT_FAULT, ROW_BUFFER_BYTES, open_session, play
 
 MEMORY = 16400  # bytes that each play's row buffer is the front of
 LISTS = 150
 AT_FAULT, ENDED = 256, 257  # crate harness: where an answer is no row's number
+SIGNED_OR_CHECKED = {(f"{command} under {rule}", s.number) for command in ("06", "07") for rule in RULES for s in SETS}
+WANTED = {("row", None), ("fault", None), ("ended", None), *SIGNED_OR_CHECKED}
+
+
+def names_for(at):
+    """Sessions of set 0, at times of all sets; for every third list those that change the rule, of each set in turn."""
+    if at % 3 == 0:
+        return [name for name in sessions.names() if name.startswith(f"{at // 3 % 5}/rules/")]
+    return [name for name in sessions.names() if name.startswith("0/") or at % 5 == 0]
 
 
 def make(seed, at):
     """The files, and the plays as (file, size of the row buffer)."""
-    rng = Random(f"{seed} list of plays {at}")
-    names = [name for name in sessions.names() if name.startswith("0/") or at % 5 == 0]
+    rng, names = Random(f"{seed} list of plays {at}"), names_for(at)
     files = [sessions.make(seed, rng.choice(names)) for _ in range(rng.randint(1, 3))]
     files = [file for file in files if len(file) < 60000] or [b"PSG1"]
     sizes = [ROW_BUFFER_BYTES] * 8 + [0, 1, ROW_BUFFER_BYTES - 1, ROW_BUFFER_BYTES + 1, MEMORY]
     swaps = rng.random() < 0.5
     plays, current = [], 0
-    for _ in range(rng.randint(1, 60)):
+    for _ in range(rng.randint(40 if at % 3 == 0 else 1, 60)):
         if swaps and rng.random() < 0.2:
             current = rng.randrange(len(files))
         plays.append((current, rng.choice(sizes)))
@@ -38,8 +48,8 @@ def numbers(files, plays):
     return [number for i, (file, size) in enumerate(plays) for number in (*places[file], MEMORY * i, MEMORY * i + size)]
 
 
-def by_reference(files, plays, memory):
-    """The answers, as crate harness gives them, and the memory after all plays."""
+def by_reference(files, plays, memory, kinds):
+    """The answers, as crate harness gives them, and the memory after all plays; what each gave is counted."""
     session, answers = open_session(), []
     memory = bytearray(memory)
     for i, (file, size) in enumerate(plays):
@@ -47,6 +57,7 @@ def by_reference(files, plays, memory):
         session, answer = play(session, files[file], rows)
         memory[MEMORY * i:MEMORY * i + size] = rows
         answers.append({ROW_BUFFER_AT_FAULT: AT_FAULT, HAS_ENDED: ENDED}.get(answer) or answer.number)
+        kinds[kind(answers[-1], session, rows)] += 1
     return answers, bytes(memory)
 
 
@@ -73,8 +84,12 @@ def difference(found, wanted):
     return None
 
 
-def kind(answer):
-    return {AT_FAULT: "fault", ENDED: "ended"}.get(answer, "row")
+def kind(answer, session, rows):
+    """What a play gave; of an accepted 06 or 07 under which rule, and in which set."""
+    if answer in (AT_FAULT, ENDED):
+        return "fault" if answer == AT_FAULT else "ended", None
+    command = rows[:rows.index(b"\n")].split(b" ")[1].decode()
+    return (f"{command} under {session.rule}", session.set.number) if command in ("06", "07") and answer == 0 else ("row", None)
 
 
 def run(seed, shared):
@@ -84,13 +99,17 @@ def run(seed, shared):
     for at in range(LISTS):
         files, plays = make(seed, at)
         memory = Random(f"{seed} memory {at}").randbytes(MEMORY * len(plays))
-        wanted = by_reference(files, plays, memory)
+        wanted = by_reference(files, plays, memory, kinds)
         found = by_library(library, files, plays, memory) if library else wanted
         if found != wanted:
             print(f"lists of plays: DIFFERENCE in list {at}, {difference(found, wanted)}; again: tests/run --seed {seed}")
             return False
-        kinds.update(map(kind, wanted[0]))
         plays_made += len(plays)
+    for name, number in WANTED - set(kinds):
+        print(f"lists of plays: NOT COVERED: {name}{'' if number is None else f' in set {number}'}")
+    counts = Counter()
+    for (name, _), count in kinds.items():
+        counts[name] += count
     print(f"lists of plays: {LISTS} lists with {plays_made} plays {'agree with the reference' if library else 'of the reference alone'}: "
-          + ", ".join(f"{name} {count}" for name, count in sorted(kinds.items())) + f", seed {seed}")
-    return set(kinds) == {"row", "fault", "ended"}
+          + ", ".join(f"{name}: {count}" for name, count in sorted(counts.items())) + f", seed {seed}")
+    return WANTED == set(kinds)

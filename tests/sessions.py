@@ -9,8 +9,9 @@ from random import Random
 import material
 from damages import POINT_MISTAKES, damaged_points, put
 from reference import encodings
+from reference.challenge import RULES
 from reference.parameters import SETS
-from reference.session import MOST_FILE_BYTES, ROW_BUFFER_BYTES, TAG_BYTES, open_session, play
+from reference.session import MOST_FILE_BYTES, NEED_NO_SET, ROW_BUFFER_BYTES, TAG_BYTES, open_session, play
 
 # How often each kind is made, by set: sessions of the later sets are long.
 REPEATS = (100, 16, 10, 8, 6)
@@ -81,13 +82,13 @@ def nothing(w, mistakes):
 
 
 def signature_operand(w, mistakes):
-    """The last one made, one made with the held key, or one out of the blue; sometimes damaged."""
+    """The last one made, one made with the held key under either rule, or one out of the blue; sometimes damaged."""
     s, held = w.set, w.session
     size = 2 * s.b + 2 * s.N
     if w.signature is not None and len(w.signature) == size and w.rng.random() < 0.6:
         data = w.signature
     elif held.key is not None and held.message is not None:
-        data = material.signature(w.rng, s, held.key, held.points, held.message)[1:]
+        data = material.signature(w.rng, s, held.key, held.points, held.message, material.any_rule(w.rng))[1:]
     else:
         entries = encodings.number_bytes(material.entries(w.rng, s), 2)
         data = entries + encodings.number_bytes(material.passing_mask(w.rng, s), 2, signed=True)
@@ -110,9 +111,15 @@ def grant_operand(w, mistakes):
     return w.rng.choice((0, 1, 2, 65535, w.rng.randrange(65536))).to_bytes(2, "big")
 
 
+def rule_operand(w, mistakes):
+    if wrong(w.rng, mistakes):
+        return bytes([w.rng.choice((0, 3, 255, w.rng.randrange(256)))])
+    return bytes([material.any_rule(w.rng)])
+
+
 OPERANDS = {0x01: set_operand, 0x02: points_operand, 0x03: key_operand, 0x04: mask_operand,
             0x05: message_operand, 0x06: nothing, 0x07: signature_operand, 0x08: evaluations_operand,
-            0x0A: grant_operand}
+            0x0A: grant_operand, 0x0B: rule_operand}
 
 
 def add(w, command, mistakes=0.0):
@@ -126,6 +133,16 @@ def add_passing(w):
 
 def grant(w, number):
     w.add(0x0A, number.to_bytes(2, "big"))
+
+
+def choose(w, rule):
+    w.add(0x0B, bytes([rule]))
+
+
+def at_times_choose(w):
+    """A rule, now and then, and at times what is none."""
+    if w.rng.random() < 0.3:
+        add(w, 0x0B, MISTAKE)
 
 
 # ── Sessions ────────────────────────────────────────────────────────────────────────────────────
@@ -144,9 +161,11 @@ def signing(rng, s):
     for _ in range(rng.randint(1, 4 if s.number == 0 else 2)):
         for _ in range(rng.randint(0, 4)):
             add(w, 0x04)
+            at_times_choose(w)
         add(w, 0x06)
         if rng.random() < 0.2:
             add(w, 0x08)
+        at_times_choose(w)
         add(w, 0x07, MISTAKE)
         if rng.random() < 0.3:
             add(w, 0x05)
@@ -172,6 +191,7 @@ def key_at_end(sign):
 def corners(rng, s):
     """Keys at the ends of -1..1, exponents 1 and N-1 among the points, masks at the ends of -k..k and within them; each signature is checked."""
     w = Writer(rng, s)
+    at_times_choose(w)
     add(w, 0x01)
     w.add(0x02, encodings.number_bytes(material.points_with_ends(rng, s), 2))
     add(w, 0x05)
@@ -189,9 +209,10 @@ def corners(rng, s):
 def passed_over(rng, s):
     """Masks that fail before one that passes; then 06 until 9; then 06 with none held."""
     w = begun(rng, s)
+    at_times_choose(w)
     held = w.session
     for _ in range(rng.randint(1, 7)):
-        y = material.failing_mask(rng, s, held.key, held.points, held.message)
+        y = material.failing_mask(rng, s, held.key, held.points, held.message, held.rule)
         w.add(0x04, encodings.number_bytes(y, 2, signed=True))
     for _ in range(rng.randint(1, 2)):
         add_passing(w)
@@ -213,7 +234,7 @@ def many_masks(rng, s):
 
 
 def walk_on(w, steps, mistakes):
-    commands = (0x01, 0x02, 0x03, 0x04, 0x04, 0x04, 0x05, 0x06, 0x06, 0x07, 0x07, 0x08, 0x0A)
+    commands = (0x01, 0x02, 0x03, 0x04, 0x04, 0x04, 0x05, 0x06, 0x06, 0x07, 0x07, 0x08, 0x0A, 0x0B)
     for _ in range(steps):
         add(w, w.rng.choice(commands), mistakes)
     return w
@@ -231,10 +252,10 @@ def walk(rng, s):
 
 
 def repeated(rng, s):
-    """01, 02, 03 and 08 again, and what each forgets shows in a 06 and a 07."""
+    """01, 02, 03, 08 and 0B again, and what each forgets shows in a 06 and a 07."""
     w = begun(rng, s)
     for _ in range(rng.randint(1, 3)):
-        for command in (0x04, 0x06, rng.choice((0x01, 0x02, 0x03, 0x05, 0x08)), 0x04, 0x07, 0x06):
+        for command in (0x04, 0x06, rng.choice((0x01, 0x02, 0x03, 0x05, 0x08, 0x0B)), 0x04, 0x07, 0x06):
             add(w, command, MISTAKE / 3)
     w.add(0x00)
     return bytes(w.file)
@@ -245,6 +266,7 @@ def forgets(rng, s):
     w = begun(rng, s)
     for _ in range(rng.randint(1, 3)):
         add(w, 0x04)
+    at_times_choose(w)
     add(w, rng.choice((0x01, 0x02, 0x03, 0x08)), rng.choice((0, 1)))
     for command in (0x02, 0x03, 0x08, 0x05, 0x04):
         if rng.random() < 0.3:
@@ -284,7 +306,8 @@ def cut_inside(command):
     """The file ends inside the operand, just behind the command or just before the last byte."""
     def make(rng, s):
         w = Writer(rng, s)
-        add(w, 0x01)
+        if command not in NEED_NO_SET or rng.random() < 0.5:
+            add(w, 0x01)
         if rng.random() < 0.5:  # else 10 is due as well, and 13 comes before it
             w = walk_on(begun(rng, s), rng.randint(0, 3), 0)
         operand = OPERANDS[command](w, MISTAKE)
@@ -330,6 +353,7 @@ def lives(rng, s):
                 add(w, command, MISTAKE)
         elif turn < 0.6:
             add_passing(w)
+            at_times_choose(w)
         add(w, 0x06)
     w.add(0x00)
     return bytes(w.file)
@@ -351,7 +375,7 @@ def forgotten(rng, s):
 
 
 def many_signatures(rng, s):
-    """As many 06 as were granted, each with its mask, and then more."""
+    """As many 06 as were granted, each with its mask, and then more; then the largest grant."""
     w = begun(rng, s)
     number = rng.randint(10, 60) if s.number == 0 else 2
     grant(w, number)
@@ -359,12 +383,99 @@ def many_signatures(rng, s):
         if not w.session.masks:
             add_passing(w)
         add(w, 0x06)
+    grant(w, 65535)
+    add(w, 0x06)
+    w.add(0x00)
+    return bytes(w.file)
+
+
+def rules(rng, s):
+    """0B between 04, 06 and 07. Each signature is checked under its own rule, under the other, and under its own again; at the end by evaluations alone."""
+    w = begun(rng, s)
+    for rule in rng.choice(((2, 1), (1, 2, 1), (2, 2, 1))):
+        for _ in range(rng.randint(1, 2)):
+            add_passing(w)
+        choose(w, rule)
+        add(w, 0x06)
+        for judge in (rule, material.other_rule(rule), rule):
+            choose(w, judge)
+            w.add(0x07, w.signature)
+    w.add(0x08, encodings.number_bytes(w.session.evaluations, 3))
+    for judge in RULES:
+        choose(w, judge)
+        w.add(0x07, w.signature)
+    w.add(0x00)
+    return bytes(w.file)
+
+
+def rule_first(rule):
+    """0B before any set. No 18 and no 01, refused or accepted, changes the rule: it shows in a 06 and a 07; then the same with the other rule."""
+    def make(rng, s):
+        w = Writer(rng, s)
+        for each in (rule, material.other_rule(rule)):
+            choose(w, each)
+            add_no_rules(w)
+            add(w, 0x01, 1)
+            for command in (0x01, 0x02, 0x03, 0x05):
+                add(w, command)
+            add_passing(w)
+            add_no_rules(w)
+            add(w, 0x06)
+            add_no_rules(w)
+            w.add(0x07, w.signature)
+        w.add(0x00)
+        return bytes(w.file)
+    return make
+
+
+def add_no_rules(w):
+    for number in w.rng.sample((0, 3, 255, w.rng.randint(4, 254)), w.rng.randint(1, 4)):
+        choose(w, number)
+
+
+def passing_under(rule):
+    """A mask that passes under this rule alone: under the other it is passed over, or 9; under its own it signs."""
+    def make(rng, s):
+        w = Writer(rng, s)
+        for command in (0x01, 0x02, 0x05):
+            add(w, command)
+        w.add(0x03, encodings.write_key(material.dense_key(rng, s)))
+        held = w.session
+        y = encodings.number_bytes(material.mask_passing_alone(rng, s, held.key, held.points, held.message, rule), 2, signed=True)
+        choose(w, material.other_rule(rule))
+        w.add(0x04, y)
+        add_passing(w)
+        add(w, 0x06)
+        w.add(0x04, y)
+        add(w, 0x06)
+        w.add(0x04, y)
+        choose(w, rule)
+        add(w, 0x06)
+        w.add(0x00)
+        return bytes(w.file)
+    return make
+
+
+def rules_and_lives(rng, s):
+    """0B between a grant and what it allows: the number left is carried over, under either rule it is spent, and 17 keeps the masks."""
+    w = begun(rng, s)
+    for rule in rng.sample(RULES, 2):
+        choose(w, material.other_rule(rule))
+        grant(w, 1)
+        add_passing(w)
+        add_passing(w)
+        choose(w, rule)
+        for _ in range(rng.randint(2, 3)):
+            add(w, 0x06)
+    grant(w, rng.randint(1, 3))
+    add(w, 0x06)
+    w.add(0x07, w.signature)
     w.add(0x00)
     return bytes(w.file)
 
 
 def good(rng, s):
-    return rng.choice((signing, passed_over, walk, repeated, lives))(rng, s)
+    return rng.choice((signing, passed_over, walk, repeated, lives, rules))(rng, s)
 
 
 def cut(rng, s):
@@ -388,7 +499,7 @@ def flipped(rng, s):
 def unknown(rng, s):
     w = begun(rng, s)
     walk_on(w, rng.randint(0, 3), MISTAKE)
-    return bytes(w.file) + bytes([rng.choice((9, 0x1A, 0xAF, 255, rng.randint(11, 255)))]) + b"\0"
+    return bytes(w.file) + bytes([rng.choice((9, 0x0C, 0x1A, 0x1B, 0xAF, 255, rng.randint(12, 255)))]) + b"\0"
 
 
 def wrong_tag(rng, s):
@@ -403,7 +514,7 @@ def after_end(rng, s):
 
 def any_bytes(rng, s):
     length = rng.randint(0, 80)
-    body = bytes(rng.choice((*range(11), rng.randrange(256))) for _ in range(length))
+    body = bytes(rng.choice((*range(12), rng.randrange(256))) for _ in range(length))
     return TAG_BYTES + bytes([1, s.number]) + body
 
 
@@ -423,10 +534,14 @@ KINDS = {"signing": signing, "passed over": passed_over, "many masks": many_mask
          "after end": after_end, "any bytes": any_bytes, "longest": longest,
          "upper end": key_at_end(1), "lower end": key_at_end(-1), "corners": corners,
          "spent": spent, "lives": lives, "forgotten": forgotten, "many signatures": many_signatures}
+RULE_KINDS = {"rules": rules, "rules and lives": rules_and_lives, **{f"rule {rule} before any set": rule_first(rule) for rule in RULES},
+              **{f"passing under {rule} alone": passing_under(rule) for rule in RULES}}
+KINDS |= RULE_KINDS
 KINDS |= {f"{command:02X} before 01": before_set(command) for command in (*range(2, 9), 10)}
-KINDS |= {f"cut inside {command:02X}": cut_inside(command) for command in (1, 2, 3, 4, 5, 7, 8, 10)}
+KINDS |= {f"cut inside {command:02X}": cut_inside(command) for command in (1, 2, 3, 4, 5, 7, 8, 10, 11)}
 # One for so many repeats; the kinds for one command are many.
 SELDOM = {"longest": 10, "wrong tag": 3, "spent": 2, "forgotten": 4, "many signatures": 4, "upper end": 4, "lower end": 4, "corners": 4,
+          **{kind: 4 for kind in RULE_KINDS if kind != "rules"},
           **{kind: 10 for kind in KINDS if "before 01" in kind or "cut inside" in kind}}
 OFTEN = {"signing": 2, "walk": 3, "repeated": 2, "flipped": 2}
 

@@ -1,17 +1,22 @@
-"""Document 01, "Hash and challenge"."""
+"""Document 01, "Hash and challenge", and the rules of request #106 by which a commitment goes into the hash."""
 
 from hashlib import sha512
 
 DIGESTS_IN_A_POOL = 8
+LOW_BYTE_RULE, THREE_BYTE_RULE = 1, 2
+RULES = (LOW_BYTE_RULE, THREE_BYTE_RULE)
 
 
-def commitment_bytes(commitment):
-    return bytes(evaluation % 256 for evaluation in commitment)
+def commitment_bytes(commitment, rule):
+    """Of each evaluation, in 0..q-1 and in order: its remainder by 256, or all its three bytes, low byte first."""
+    if rule == LOW_BYTE_RULE:
+        return bytes(evaluation % 256 for evaluation in commitment)
+    return b"".join(evaluation.to_bytes(3, "little") for evaluation in commitment)
 
 
-def pool_of(commitment, message):
+def pool_of(commitment, message, rule):
     """Eight digests, 512 bytes."""
-    digests = [sha512(commitment_bytes(commitment) + sha512(message).digest()).digest()]
+    digests = [sha512(commitment_bytes(commitment, rule) + sha512(message).digest()).digest()]
     while len(digests) < DIGESTS_IN_A_POOL:
         digests.append(sha512(digests[-1]).digest())
     return b"".join(digests)

@@ -1,18 +1,18 @@
 """The library's entries: tests in document 01's order, answers as the C entries give them.
 
 Points, coefficients, masks and challenge entries are lists of numbers, encodings and messages are
-bytes. Result buffers come last, lists or bytearrays written in place: one, but none for `check` and two
-for the readers of public keys and signatures. A refused call leaves them.
+bytes. Result buffers come last, ahead of the rule alone, lists or bytearrays written in place: one, but none for `check`
+and two for the readers of public keys and signatures. A refused call leaves them.
 """
 
 from functools import wraps
 
 from . import encodings, signing
-from .challenge import draw as draw_challenge, is_pool_length
+from .challenge import RULES, draw as draw_challenge, is_pool_length
 from .parameters import SETS
 from .polynomials import are_evaluations, are_points, evaluation_residues, evaluations, is_key, is_mask
 from .refusals import (CHALLENGE_INDEX, EVALUATION, EXPONENTS, KEY_VALUE, LENGTH, MASK_COEFFICIENT,
-                       NO_MASK_PASSES, POOL_SPENT, Refused, SET, refuse_unless)
+                       NO_MASK_PASSES, POOL_SPENT, RULE, Refused, SET, refuse_unless)
 
 MOST_MESSAGE_BYTES = 65535
 MOST_MASKS = 8
@@ -81,38 +81,40 @@ def public_key(secret_key, points, out):
 
 
 @answers_refusals
-def sign(secret_key, points, masks, message, out):
+def sign(secret_key, points, masks, message, out, rule):
     refuse_unless(len(message) <= MOST_MESSAGE_BYTES, LENGTH)
     s = set_of_encoding(secret_key)
     refuse_unless(len(secret_key) == encodings.secret_key_length(s), LENGTH)
     refuse_unless(len(points) == s.t and len(out) == encodings.signature_length(s), LENGTH)
     refuse_unless(len(masks) % s.N == 0 and len(masks) <= MOST_MASKS * s.N, LENGTH)
+    refuse_unless(rule in RULES, RULE)
     refuse_unless(are_points(s, points), EXPONENTS)
     f = encodings.read_key(secret_key[1:])
     refuse_unless(is_key(f), KEY_VALUE)
     refuse_unless(is_mask(s, masks), MASK_COEFFICIENT)
     each = [masks[at:at + s.N] for at in range(0, len(masks), s.N)]
-    signed = signing.sign(s, f, points, each, message)
+    signed = signing.sign(s, f, points, each, message, rule)
     refuse_unless(signed is not None, NO_MASK_PASSES)
     out[:] = encodings.write_signature(s, signed.challenge, signed.z)
     return SIGNED + signed.passed_over
 
 
 @answers_refusals
-def check(public_key, message, signature):
+def check(public_key, message, signature, rule):
     refuse_unless(len(message) <= MOST_MESSAGE_BYTES, LENGTH)
     refuse_unless(len(public_key) > 0 and len(signature) > 0, LENGTH)
     s = set_of(public_key[0])
     refuse_unless(signature[0] == public_key[0], SET)
     refuse_unless(len(public_key) == encodings.public_key_length(s), LENGTH)
     refuse_unless(len(signature) == encodings.signature_length(s), LENGTH)
+    refuse_unless(rule in RULES, RULE)
     points, public_evaluations = encodings.read_public_key(s, public_key[1:])
     refuse_unless(are_points(s, points), EXPONENTS)
     refuse_unless(are_evaluations(s, public_evaluations), EVALUATION)
     entries, z = encodings.read_signature(s, signature[1:])
     refuse_unless(encodings.are_entries(s, entries), CHALLENGE_INDEX)
     c = encodings.challenge_of(s, entries)
-    return YES if signing.check(s, points, public_evaluations, message, c, z) else NO
+    return YES if signing.check(s, points, public_evaluations, message, c, z, rule) else NO
 
 
 # ── Readers and writers of the encodings ────────────────────────────────────────────────────────

@@ -52,14 +52,19 @@ def evaluations(s, a, points):
 
 
 def evaluation_residues(s, a, points):
-    """The same in 0..q-1: the form in encodings, in the hash and wherever evaluations are taken.
+    """The same in 0..q-1: the form in encodings, in the hash and wherever evaluations are taken."""
+    fields = _at_all_exponents(s, tuple(a))
+    return [fields[j] % s.q for j in points]
 
-    Quick: one long number has a field of 64 bits for each exponent, so that one multiplication
-    serves all exponents. test_document.py holds it to `evaluation`.
+
+@lru_cache(maxsize=128)
+def _at_all_exponents(s, a):
+    """Quick: one long number has a field of 64 bits for each exponent, so that one multiplication
+    serves all exponents. test_document.py holds it to `evaluation`. Kept for a while: a session's
+    polynomials are evaluated when it is written, played and read.
     """
     total = _bias(s) + sum(value * column for value, column in zip(a, _columns(s)) if value)
-    fields = array("Q", total.to_bytes(8 * s.N, "little"))
-    return [fields[j] % s.q for j in points]
+    return array("Q", total.to_bytes(8 * s.N, "little"))
 
 
 def _packed(numbers):

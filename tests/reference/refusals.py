@@ -5,6 +5,9 @@ LENGTH = 1
 SET = 2
 POOL_SPENT = 11
 
+# Caller of the library, or author of the session
+RULE = 18
+
 # Author of the session
 NO_SET_YET = 3
 EIGHT_MASKS_HELD = 8

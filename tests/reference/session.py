@@ -3,11 +3,12 @@
 from typing import NamedTuple
 
 from . import encodings, signing
+from .challenge import LOW_BYTE_RULE, RULES
 from .parameters import SETS
 from .polynomials import are_evaluations, are_points, evaluation_residues, evaluations, is_key, is_mask
 from .refusals import (BYTES_AFTER_END, CHALLENGE_INDEX, EIGHT_MASKS_HELD, END_THE_SESSION, EVALUATION,
                        EXPONENTS, FILE_ENDS, KEY_VALUE, LENGTH, MASK_COEFFICIENT, NOT_HELD,
-                       NONE_LEFT, NO_MASK_PASSES, NO_SET_YET, Refused, SET, TAG, UNKNOWN_COMMAND, refuse_unless)
+                       NONE_LEFT, NO_MASK_PASSES, NO_SET_YET, RULE, Refused, SET, TAG, UNKNOWN_COMMAND, refuse_unless)
 
 MOST_FILE_BYTES = 65536
 ROW_BUFFER_BYTES = 16384
@@ -15,6 +16,7 @@ MESSAGE_BYTES = 64
 MOST_MASKS_HELD = 8
 SIGNATURES_OF_A_LOADED_KEY = 65535
 TAG_BYTES = bytes.fromhex("50534731")
+NEED_NO_SET = (0x00, 0x01, 0x0B)
 
 
 class Session(NamedTuple):
@@ -22,6 +24,7 @@ class Session(NamedTuple):
     ended: bool = False
     place: int = 0
     ordinal: int = 0  # of the last command's row
+    rule: int = LOW_BYTE_RULE  # in force
     set: tuple = None
     points: list = None
     key: list = None
@@ -88,7 +91,7 @@ def operand_of(session, command, file):
     """Tests 14, 3, 13; a file that ends where a command is due is 13 too."""
     refuse_unless(command is not None, FILE_ENDS)
     refuse_unless(command == 0x00 or command in PLAYED, UNKNOWN_COMMAND)
-    refuse_unless(command in (0x00, 0x01) or session.set is not None, NO_SET_YET)
+    refuse_unless(command in NEED_NO_SET or session.set is not None, NO_SET_YET)
     length = operand_length(session.set, command)
     operand = file[session.place + 1:session.place + 1 + length]
     refuse_unless(len(operand) == length, FILE_ENDS)
@@ -98,7 +101,7 @@ def operand_of(session, command, file):
 def operand_length(s, command):
     if command in (0x00, 0x06):
         return 0
-    if command == 0x01:
+    if command in (0x01, 0x0B):
         return 1
     return {0x02: 2 * s.t, 0x03: s.N, 0x04: 2 * s.N, 0x05: MESSAGE_BYTES,
             0x07: 2 * s.b + 2 * s.N, 0x08: 3 * s.t, 0x0A: 2}[command]
@@ -113,7 +116,7 @@ def write_row(rows, ordinal, command, number, *fields):
 
 def hold_set(session, operand):
     refuse_unless(operand[0] < len(SETS), SET)
-    fresh = Session(started=True, place=session.place, ordinal=session.ordinal, set=SETS[operand[0]])
+    fresh = Session(started=True, place=session.place, ordinal=session.ordinal, rule=session.rule, set=SETS[operand[0]])
     return fresh, ()
 
 
@@ -148,7 +151,7 @@ def sign(session, operand):
     refuse_unless(None not in needed, NOT_HELD)
     refuse_unless(session.left > 0, NONE_LEFT)
     s = session.set
-    signed = signing.sign(s, session.key, session.points, session.masks, session.message)
+    signed = signing.sign(s, session.key, session.points, session.masks, session.message, session.rule)
     refuse_unless(signed is not None, NO_MASK_PASSES)
     signature = encodings.write_signature(s, signed.challenge, signed.z)
     kept = session.masks[signed.passed_over + 1:]
@@ -162,7 +165,7 @@ def check(session, operand):
     entries, z = encodings.read_signature(s, operand)
     refuse_unless(encodings.are_entries(s, entries), CHALLENGE_INDEX)
     c = encodings.challenge_of(s, entries)
-    verdict = signing.check(s, session.points, session.evaluations, session.message, c, z)
+    verdict = signing.check(s, session.points, session.evaluations, session.message, c, z, session.rule)
     return session, (int(verdict),)
 
 
@@ -178,8 +181,13 @@ def grant(session, operand):
     return session._replace(left=int.from_bytes(operand, "big")), ()
 
 
-PLAYED = {0x01: hold_set, 0x02: hold_points, 0x03: hold_key, 0x04: hold_mask,
-          0x05: hold_message, 0x06: sign, 0x07: check, 0x08: hold_evaluations, 0x0A: grant}
+def choose_rule(session, operand):
+    refuse_unless(operand[0] in RULES, RULE)
+    return session._replace(rule=operand[0]), ()
+
+
+PLAYED = {0x01: hold_set, 0x02: hold_points, 0x03: hold_key, 0x04: hold_mask, 0x05: hold_message, 0x06: sign, 0x07: check,
+          0x08: hold_evaluations, 0x0A: grant, 0x0B: choose_rule}
 
 
 def play_to_the_end(file):

@@ -8,7 +8,7 @@ from random import Random
 sys.path.insert(0, str(Path(__file__).resolve().parent.parent))
 
 from reference import encodings, library, session  # noqa: E402
-from reference.challenge import draw, pool_of, skip_bound  # noqa: E402
+from reference.challenge import LOW_BYTE_RULE, RULES, THREE_BYTE_RULE, commitment_bytes, draw, pool_of, skip_bound  # noqa: E402
 from reference.parameters import SETS, is_sound  # noqa: E402
 from reference.polynomials import centred, evaluation, evaluation_residues, evaluations, product  # noqa: E402
 from reference.signing import in_range, point, sign  # noqa: E402
@@ -124,22 +124,64 @@ def test_readers_and_writers():
 
 
 def test_pool_of_the_message():
-    pool = pool_of([256, 511], b"m")
-    assert len(pool) == 512 and pool == pool_of([0, 255], b"m") != pool_of([0, 255], b"n")
+    for rule in RULES:
+        pool = pool_of([0, 255], b"m", rule)
+        assert len(pool) == 512 and pool != pool_of([0, 255], b"n", rule) and pool != pool_of([255, 0], b"m", rule)
+        assert (pool == pool_of([256, 511], b"m", rule)) == (rule == LOW_BYTE_RULE)
+
+
+def test_commitment_bytes_by_rule():
+    """Request #106, by hand; and two commitments of set 1 that differ by 256 in one evaluation."""
+    commitment = [0, 7, 255, 256, 0x030201, 775936]
+    assert commitment_bytes(commitment, LOW_BYTE_RULE) == bytes.fromhex("00 07 FF 00 01 00")
+    assert commitment_bytes(commitment, THREE_BYTE_RULE) == bytes.fromhex("000000 070000 FF0000 000100 010203 00D70B")
+    s = SETS[1]
+    one = [3879 * i for i in range(s.t)]
+    for at in range(s.t):
+        other = one[:at] + [one[at] + 256] + one[at + 1:]
+        assert max(other) < s.q
+        assert commitment_bytes(one, LOW_BYTE_RULE) == commitment_bytes(other, LOW_BYTE_RULE)
+        assert commitment_bytes(one, THREE_BYTE_RULE) != commitment_bytes(other, THREE_BYTE_RULE)
 
 
 def test_signed_is_checked_in_every_set():
+    """Under its own rule the check says yes; under the other it judges by that one, which in sets 1 to 4 draws another challenge."""
     rng = Random(2)
     for s in SETS:
         points = sorted(rng.sample(range(1, s.N), s.t))
         key = [rng.randint(-1, 1) for _ in range(s.N)]
         small = s.k - 2 * s.b
         mask = [rng.randint(-small, small) for _ in range(s.N)]
-        signed = sign(s, key, points, [mask], b"a message")
-        signature = encodings.write_signature(s, signed.challenge, signed.z)
         public = encodings.write_public_key(s, points, evaluation_residues(s, key, points))
-        assert library.check(public, b"a message", signature) == 256
-        assert library.check(public, b"A message", signature) == 0
+        for rule, other in (RULES, RULES[::-1]):
+            signed = sign(s, key, points, [mask], b"a message", rule)
+            signature = encodings.write_signature(s, signed.challenge, signed.z)
+            assert library.check(public, b"a message", signature, rule) == 256
+            assert library.check(public, b"A message", signature, rule) == 0
+            same_challenge = sign(s, key, points, [mask], b"a message", other).challenge == signed.challenge
+            assert library.check(public, b"a message", signature, other) == (256 if same_challenge else 0)
+            assert s.number == 0 or not same_challenge
+
+
+def test_the_rule_in_the_library():
+    """18 behind each length and ahead of 4, in both entries; a refused call leaves its buffer."""
+    secret, signature = bytes.fromhex("00 01FF000100"), bytes.fromhex("00 0002 8003 0004 0003 FFFC 0000 0001")
+    public, with_exponent_9 = bytes.fromhex("00 0001 0002 000007 00001E"), bytes.fromhex("00 0001 0009 000007 00001E")
+    for rule in (0, 3, 255):
+        for points in (POINTS, [1, 9]):
+            out = bytearray(15)
+            assert library.sign(secret, points, [0] * 5, b"m", out, rule) == 18 and out == bytes(15)
+            assert library.sign(secret, points, [0] * 4, b"m", out, rule) == 1
+            assert library.sign(secret, points, [], bytes(65536), out, rule) == 1
+            assert library.sign(b"\5" + secret[1:], points, [], b"m", out, rule) == 2
+        for key in (public, with_exponent_9):
+            assert library.check(key, b"m", signature, rule) == 18
+            assert library.check(key, b"m", signature[:-1], rule) == 1
+            assert library.check(key, bytes(65536), signature, rule) == 1
+            assert library.check(key, b"m", b"\1" + signature[1:], rule) == 2
+    for rule in RULES:
+        assert library.sign(secret, [1, 9], [0] * 5, b"m", bytearray(15), rule) == 4
+        assert library.check(with_exponent_9, b"m", signature, rule) == 4
 
 
 TRANSCRIPT_FILE = bytes.fromhex(
@@ -174,6 +216,28 @@ def test_grants():
         assert played(granted).endswith(b"4 0A 0\n5 06 10\n6 05 0\n7 06 %b\n8 06 %b\n9 00 13\n" % (refusal, refusal))
         assert played(granted + b"\3\2\0\0\0\0\6").endswith(b"9 03 5\n10 06 %b\n11 00 13\n" % refusal)
         assert played(granted + loaded[11:] + b"\6").endswith(b"9 03 0 7 -1\n10 06 9\n11 00 13\n")
+
+
+def test_the_rule_in_force():
+    """Request #106: the tests of 0B in order, without a set and with one; what it leaves as it was, and what leaves it in force."""
+    played, play = session.play_to_the_end, session.play
+    assert played(b"PSG1\x0b") == b"1 0B 13\n" and played(b"PSG1\1\0\x0b") == b"1 01 0\n2 0B 13\n"
+    assert played(b"PSG1\x0c\1") == b"1 0C 14\n"
+    for number in range(256):
+        expected = b"0" if number in RULES else b"18"
+        assert played(b"PSG1\x0b%b\0" % bytes([number])) == b"1 0B %b\n2 00 0\n" % expected
+    loaded = TRANSCRIPT_FILE[:28] + b"\5" + bytes(64) + b"\x0a\0\7"  # set, points, key, a mask, the message and a grant
+    held, rows = session.open_session(), bytearray(16384)
+    assert held.rule == LOW_BYTE_RULE
+    for _ in range(6):
+        held, _ = play(held, loaded, rows)
+    for number, rule in ((2, 2), (0, 2), (3, 2), (1, 1), (255, 1), (2, 2)):
+        loaded += bytes([0x0B, number])
+        after, _ = play(held, loaded, rows)
+        assert after == held._replace(place=len(loaded), ordinal=held.ordinal + 1, rule=rule)
+        held = after
+    again, _ = play(held, loaded + b"\1\0", rows)
+    assert again == session.Session(started=True, place=held.place + 2, ordinal=held.ordinal + 1, set=HAND, rule=2)
 
 
 def test_lent_rows():

@@ -1,9 +1,9 @@
 -- One command, played with what is held, which is what is read: so it is after the command. What an accepted 06 signs with, what a refusal leaves, and
 -- how much the command adds to its row.
 -- Assumes nothing.
-use mathlib.Core.Path.{_≡_, refl, sym, ap, _∙_}
+use mathlib.Core.Path.{_≡_, refl, sym, subst, ap, _∙_}
 use mathlib.Core.Bool.{Bool, true, false, not, _&&_, true≢false, cond}
-use mathlib.Core.List.{List, [], _∷_, _++_, map}
+use mathlib.Core.List.{List, [], _∷_, _++_, map, flatten}
 use mathlib.Core.Option.{Option, some}
 use Prim.Native.Nat.{ℕ, suc, _+_, _-_, _*_, _/_, _≤_, _<_}
 use native.Mathlib.Omega.{arith}
@@ -27,6 +27,7 @@ use Rattle.encoding.proofs.Parts.{length-numbers}
 use Rattle.refusal.specs.Numbers.{nonePasses, notHeld, noneLeft}
 use Rattle.refusal.specs.declared.Signing.{Signing}
 use Rattle.refusal.specs.declared.Signing.the-variants as signing
+use Rattle.refusal.specs.declared.Verdict.{Verdict}
 use Rattle.signing.specs.Sign.{signAnswer, signWritten}
 use Rattle.checking.specs.Check.{verdictAfter, checkAnswer}
 use Rattle.passign.specs.Hiding.{ourLibrary}
@@ -36,7 +37,7 @@ use Rattle.text.proofs.Text.{length-decimal, length-hex, length-spaced-integers
 use Rattle.session_rules.specs.Held.{Chosen, paramsOf, Held, isHeld, given, leftOf, withMasks}
 use Rattle.session_rules.specs.CommandTable.{commandTable, isKnown, commandOf, forLoading, forSigning, forChecking, forGranting}
 use Rattle.session_rules.specs.Commands.{Payload, nothing, values, signed, judged, Result, accepted, refused}
-use Rattle.session_rules.specs.Commands.{keyEvaluations, keyResidues, loadedKey, maskOf, commandIn, command}
+use Rattle.session_rules.specs.Commands.{keyEvaluations, keyResidues, loadedKey, maskOf, signatureRoom, commandIn, command}
 use Rattle.session_rules.specs.Commands.{chooseSet, chooseRule, loadExponents, loadKey, loadMask, loadMessage, loadEvaluations}
 use Rattle.session_rules.specs.Commands.{afterSigning, callSigning, sign, afterCheck, check, grant}
 use Rattle.session_rules.specs.Rows.{payloadText}
@@ -275,6 +276,14 @@ module _ (m : Material) (a : Available) (h : Held) (w : KeptAll m a h) (op : Lis
         let cannot = sym can-sign ∙ lacks in
         record { lacks = rw cannot; spent = λ can. absurd (true≢false (sym can ∙ cannot)) }
 
+    -- a call of the library with what is held is one with the material
+    called : {A : Type 0} (f : ℕ → List ℕ → List ℕ → List ℤ → List ℕ → List ℕ → A) → h .exponents ≡ some (m .exponents) → h .key ≡ some (keyRead m a)
+        → h .message ≡ some (m .message)
+        → callSigning c h f ≡ f (m .rule) (c .byte ∷ m .key) (m .exponents) (flatten (m .masks)) (m .message) (signatureRoom p)
+    called f js ks ts =
+        rw (js, ks, ts, w .masks .0)
+        (ap (λ (rule : ℕ). f rule (c .byte ∷ m .key) (m .exponents) (flatten (m .masks)) (m .message) (signatureRoom p)) (w .rule .0))
+
     sign-facts : forSigning h ≡ true → Facts 6 (sign c h)
     unfolding sign
     sign-facts n =
@@ -286,8 +295,7 @@ module _ (m : Material) (a : Available) (h : Held) (w : KeptAll m a h) (op : Lis
         let same = ap leftOf ks in
         cond-by (Facts 6) (eqb (leftOf (h .key)) 0)
         (λ none. refused-facts 6 17 refl refl refl (λ six goes. record { lacks = rw can; spent = λ e. sym (rw same at none) }))
-        (λ left. after-answer (callSigning c h signAnswer) (callSigning c h signWritten) (rw (w .rule .0, js, ks, ts, w .masks .0))
-        (rw (w .rule .0, js, ks, ts, w .masks .0))
+        (λ left. after-answer (callSigning c h signAnswer) (callSigning c h signWritten) (sym (called signAnswer js ks ts)) (called signWritten js ks ts)
         (sign-refused s (w .rule .1) key exponents (rw (w .masks .0) at (w .masks .1)) message) same (some-left can (rw same at left)))
 
     -- an accepted 07, whose row prints v
@@ -321,8 +329,7 @@ module _ (m : Material) (a : Available) (h : Held) (w : KeptAll m a h) (op : Lis
         let answer = checkAnswer (h .rule) (publicKey (c .byte) (given (h .exponents)) (given (h .evaluations))) (given (h .message)) (c .byte ∷ op) in
         let is : answer ≡ verdictAfter (cond (not (areEntries (p .n) (entriesIn p op))) 12 0) (holdsOf m a op) =
         rw (w .rule .0, ap given js, ap given vs, ap given ts) (check-by-rule s (w .rule .1) exponents evaluations message op size) in
-        rw is
-        (after-check (areEntries (p .n) (entriesIn p op)) (holdsOf m a op) refl)
+        subst (λ (v : Verdict). Facts 7 (afterCheck c h v)) (sym is) (after-check (areEntries (p .n) (entriesIn p op)) (holdsOf m a op) refl)
 
     evaluations-facts : Facts 8 (loadEvaluations c h op)
     unfolding loadEvaluations withCommand withAccepted availableWith availableWithAccepted

@@ -1,2 +1,3 @@
 pub mod WorkedSession
 pub mod KeyLife
+pub mod Rules
