@@ -1,9 +1,9 @@
--- The whole commitment into the hash (request #106): under rule 2 the bytes hashed decide the commitment. Two lists of numbers of three bytes, as the evaluations
--- in 0..q-1 of every set are, have the same commitment bytes only where they are equal.
+-- The whole commitment into the hash (request #106): under rule 2 the bytes hashed decide the commitment. Two lists of numbers of three bytes, as the
+-- evaluations in 0..q-1 of every set are, have the same commitment bytes only where they are equal.
 -- Assumes nothing.
 use mathlib.Core.Path.{_≡_, refl, ap, ap₂}
 use mathlib.Core.List.{List, [], _∷_, flatten, head-eq-of-cons-eq, tail-eq-of-cons-eq}
-use Prim.Native.Nat.{ℕ, _+_, _*_, _/_, _%_, _^_, _<_, _≤_}
+use Prim.Native.Nat.{ℕ, _/_, _%_, _^_, _<_, _≤_}
 use native.Mathlib.Omega.{arith}
 use lib.Dec.{T, ltb, ltb→lt}
 use lib.ListN.{length}

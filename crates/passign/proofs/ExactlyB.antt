@@ -108,7 +108,8 @@ entry-read xs entries z e =
     rw e (body-sparse p (drop 1 xs) (true-holds (h .1 .0)))
 
 -- the challenge that `check` reads where it is not refused
-pub entry-check : (rule : ℕ) (key message signature : List ℕ) → checkRefusal rule key message signature ≡ 0 → Sparse (setIn key) (signatureRead (setIn key) signature .c)
+pub entry-check : (rule : ℕ) (key message signature : List ℕ) → checkRefusal rule key message signature ≡ 0
+    → Sparse (setIn key) (signatureRead (setIn key) signature .c)
 unfolding checkRefusal
 entry-check rule key message signature e =
     let rest : Params → ℕ = λ (p : Params). cond (not (eqb (setByte signature) (setByte key))) wrongSet (checkRefusalIn rule p key signature) in
@@ -116,8 +117,10 @@ entry-check rule key message signature e =
     checked rule (setIn key) key signature (step (eqb (setByte signature) (setByte key)) 1 Iff·rfl .0 (h .1 .1) .1)
 
 -- the challenge that `sign` writes
-pub entry-sign : (rule : ℕ) (key exponents : List ℕ) (masks : List ℤ) (message out : List ℕ) {i : ℕ} → signAnswer rule key exponents masks message out ≡ signing.Signed i
+pub entry-sign : (rule : ℕ) (key exponents : List ℕ) (masks : List ℤ) (message out : List ℕ) {i : ℕ}
+    → signAnswer rule key exponents masks message out ≡ signing.Signed i
     → Sparse (setIn key) (signatureRead (setIn key) (signWritten rule key exponents masks message out) .c)
 entry-sign rule key exponents masks message out accepted =
     let h = sign-entry rule key exponents masks message out accepted in
-    rw (h .written) (signed drawChallenge rule (set-encodable rule (setByte key) (ltb-true (setByte key) 5 (h .known .set .set))) key exponents masks message out (h .answer))
+    let e = set-encodable rule (setByte key) (ltb-true (setByte key) 5 (h .known .set .set)) in
+    rw (h .written) (signed drawChallenge rule e key exponents masks message out (h .answer))

@@ -84,8 +84,8 @@ module _ (p : Params) (flags : Flags) (op : List ℕ) (r : CommandResult) where
 module _ (p : Params) (flags : Flags) (answer : Signing) (exponents key : Slice ℕ) (masks : Slice ℤ) (message signature : Slice ℕ) where
   abbrev pub callHeld : {A : Type 0} → (ℕ → List ℕ → List ℕ → List ℤ → List ℕ → List ℕ → A) → A
   callHeld f =
-      f (flags .rule) (flags .set ∷ take (p .n) (key .entry .now)) (take (p .t) (exponents .entry .now)) (flatten (masksHeld (p .n) (flags .count) (masks .entry .now)))
-      (message .entry .now) (rules.signatureRoom p)
+      f (flags .rule) (flags .set ∷ take (p .n) (key .entry .now)) (take (p .t) (exponents .entry .now))
+      (flatten (masksHeld (p .n) (flags .count) (masks .entry .now))) (message .entry .now) (rules.signatureRoom p)
 
   pub record SignedHeld : Type 0 where
     pub answers : answer ≡ callHeld signAnswer

@@ -114,13 +114,16 @@ module _ {m : Material} {a : Available} {h : Held} (w : KeptAll m a h) where
 
   module _ {x : Bool} {o : Option (List ℕ)} (l : List ℕ) where
     pub keep-exponents : Kept (TestedExponents (paramsIn m)) l x o → KeptAll (readExponents m l) (setExponents a x) (withExponents h o)
-    keep-exponents k = record { rule = w .rule; set = w .set; exponents = k; key = w .key; evaluations = w .evaluations; message = w .message; masks = w .masks }
+    keep-exponents k =
+        record { rule = w .rule; set = w .set; exponents = k; key = w .key; evaluations = w .evaluations; message = w .message; masks = w .masks }
 
     pub keep-evaluations : Kept (TestedEvaluations (paramsIn m)) l x o → KeptAll m (setEvaluations a x l) (withEvaluations h o)
-    keep-evaluations k = record { rule = w .rule; set = w .set; exponents = w .exponents; key = w .key; evaluations = k; message = w .message; masks = w .masks }
+    keep-evaluations k =
+        record { rule = w .rule; set = w .set; exponents = w .exponents; key = w .key; evaluations = k; message = w .message; masks = w .masks }
 
     pub keep-message : Kept TestedMessage l x o → KeptAll (readMessage m l) (setMessage a x) (withMessage h o)
-    keep-message k = record { rule = w .rule; set = w .set; exponents = w .exponents; key = w .key; evaluations = w .evaluations; message = k; masks = w .masks }
+    keep-message k =
+        record { rule = w .rule; set = w .set; exponents = w .exponents; key = w .key; evaluations = w .evaluations; message = k; masks = w .masks }
 
   pub keep-rule : (rule : ℕ) → TestedRule rule → KeptAll (readRule m rule) a (withRule h rule)
   keep-rule rule known = record {
@@ -135,18 +138,21 @@ module _ {m : Material} {a : Available} {h : Held} (w : KeptAll m a h) where
 
   pub keep-key : {x : Bool} {o : Option HeldKey} (k : HeldKey) → Kept (TestedKey (paramsIn m)) k x o
       → KeptAll (readKey m (k .bytes)) (setLeft (setKey a x) (k .left)) (withKey h o)
-  keep-key k t = record { rule = w .rule; set = w .set; exponents = w .exponents; key = t; evaluations = w .evaluations; message = w .message; masks = w .masks }
+  keep-key k t =
+      record { rule = w .rule; set = w .set; exponents = w .exponents; key = t; evaluations = w .evaluations; message = w .message; masks = w .masks }
 
   pub keep-left : (n : ℕ) → KeptAll m (setLeft a n) (withLeft h n)
   keep-left n =
-      record { rule = w .rule; set = w .set; exponents = w .exponents; key = leave n (w .key); evaluations = w .evaluations; message = w .message; masks = w .masks }
+      let k = leave n (w .key) in
+      record { rule = w .rule; set = w .set; exponents = w .exponents; key = k; evaluations = w .evaluations; message = w .message; masks = w .masks }
 
   pub keep-masks : {ys zs : List (List ℤ)} → ys ≡ zs → TestedMasks (paramsIn m) ys → KeptAll (readMasks m zs) a (withMasks h ys)
   keep-masks e t =
       record { rule = w .rule; set = w .set; exponents = w .exponents; key = w .key; evaluations = w .evaluations; message = w .message; masks = (e, t) }
 
 -- nothing but a set, or nothing at all
-pub only-set : (m : Material) {x : Bool} {rule : ℕ} {o : Option Chosen} (vs : List ℕ) (n : ℕ) → (rule ≡ m .rule) × TestedRule (m .rule) → Kept TestedSet (m .set) x o
+pub only-set : (m : Material) {x : Bool} {rule : ℕ} {o : Option Chosen} (vs : List ℕ) (n : ℕ) → (rule ≡ m .rule) × TestedRule (m .rule)
+    → Kept TestedSet (m .set) x o
     → KeptAll (readMasks m []) (record { set = x; exponents = false; key = false; evaluations = false; message = false; values = vs; left = n })
     (onlySet rule o)
 only-set m vs n rule k = record {

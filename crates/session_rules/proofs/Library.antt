@@ -127,8 +127,8 @@ module _ {c : Chosen} (s : TestedSet c) where
 
   -- ---- the check
 
-  module _ {rule : ℕ} {exponents vs message : List ℕ} (r : TestedRule rule) (j : TestedExponents p exponents) (v : TestedEvaluations p vs) (m : TestedMessage message)
-      (op : List ℕ) (size : length op ≡ 2 * p .b + 2 * p .n) where
+  module _ {rule : ℕ} {exponents vs message : List ℕ} (r : TestedRule rule) (j : TestedExponents p exponents) (v : TestedEvaluations p vs)
+      (m : TestedMessage message) (op : List ℕ) (size : length op ≡ 2 * p .b + 2 * p .n) where
     -- it answers by the test of the entries and by the paper's rule
     pub check-by-rule : checkAnswer rule (publicKey (c .byte) exponents vs) message (c .byte ∷ op)
         ≡ verdictAfter (cond (not (areEntries (p .n) (entriesIn p op))) 12 0) (verdict (drawChallenge rule) p exponents message vs (bodyRead p op))

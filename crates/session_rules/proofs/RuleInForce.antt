@@ -1,8 +1,8 @@
 -- The rule in force (document 02, #106), over any list of plays of a file from a session just opened: after them it is that of the last accepted 0B among the
 -- commands, 1 before any, and it is 1 or 2; and the rule that a 06 signs under, and a 07 judges by, is that of the commands before it.
 -- Assumes nothing.
-use mathlib.Core.Path.{_≡_, refl, sym, ap, _∙_}
-use mathlib.Core.Bool.{Bool, true, false, _&&_, cond, and-true, and-false}
+use mathlib.Core.Path.{_≡_, refl, ap, _∙_}
+use mathlib.Core.Bool.{cond, and-true, and-false}
 use mathlib.Core.List.{List, [], _∷_}
 use Prim.Native.Nat.{ℕ}
 use lib.Dec.{eqb}

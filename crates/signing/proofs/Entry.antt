@@ -26,7 +26,8 @@ module _ (rule : ℕ) (key exponents : List ℕ) (masks : List ℤ) (message out
   abbrev refusal : Params → ℕ
   refusal p = signRefusalIn rule p key exponents masks (length out)
 
-  pub known-iff : (signRefusal rule key exponents masks message out ≡ 0) ↔ (Known key message × (signRefusalIn rule (setIn key) key exponents masks (length out) ≡ 0))
+  pub known-iff : (signRefusal rule key exponents masks message out ≡ 0)
+      ↔ (Known key message × (signRefusalIn rule (setIn key) key exponents masks (length out) ≡ 0))
   unfolding signRefusal
   known-iff =
       let tests = passed (isLong message) {a = wrongLength} (λ e. omega arith) (in-a-set-iff key refusal) in

@@ -16,7 +16,7 @@ use Rattle.encoding.specs.Bytes.{numbers}
 use Rattle.text.specs.Text.{digits, signedDecimal, hex, spacedIntegers}
 use Rattle.session_rules.specs.Held.{Held, withRule, withMasks, withLeft}
 use Rattle.session_rules.specs.CommandTable.{commandTable, isKnown, commandOf}
-use Rattle.session_rules.specs.Commands.{nothing, signed, judged, accepted, loadedKey, chooseSet, chooseRule, loadExponents, loadKey, loadMask, loadMessage}
+use Rattle.session_rules.specs.Commands.{signed, judged, accepted, loadedKey, chooseSet, chooseRule, loadExponents, loadKey, loadMask, loadMessage}
 use Rattle.session_rules.specs.Commands.{loadEvaluations, sign, check, command, commandIn}
 use Rattle.session_rules.specs.Rows.{rowText, atFront}
 use Rattle.session_rules.specs.Play.{opened, isTagged, refusalDue, goesOn, commandStep, step, isRight}

@@ -88,7 +88,8 @@ verdict-of-requires c κs =
 -- the rule on what the bytes mean
 verdict-read : (c : tie.After-verdict-of) →
     let s = start (c .before .before .before .before .before .before .before .before .before .before) .args in
-    c .verdict-of .result ≡ verdict (drawChallenge (s .rule)) (s .p) (s .exponents .now) (s .message .now) (s .evaluations .now) (bodyRead (s .p) (s .signature .now))
+    c .verdict-of .result
+    ≡ verdict (drawChallenge (s .rule)) (s .p) (s .exponents .now) (s .message .now) (s .evaluations .now) (bodyRead (s .p) (s .signature .now))
 unfolding bodyRead
 verdict-read c =
     let w = c .before .before .before .before in

@@ -103,5 +103,6 @@ pub run-command-spec : {M : Type 1} → statement M
 run-command-spec =
     tie.close
     (tie.spec choose-set-requires (λ c. search needs) returns choose-rule-requires returns-2 (λ c κs. search needs) (λ c κs. search needs) is-ready-requires
-    (λ c κs. search needs) (λ c. search needs) (λ c. search needs) returns-3 run-in-requires (λ c. search needs) (λ c. search needs) (λ c. search needs) (λ c. search needs)
+    (λ c κs. search needs) (λ c. search needs) (λ c. search needs) returns-3 run-in-requires (λ c. search needs) (λ c. search needs)
+    (λ c. search needs) (λ c. search needs)
     (λ c. search needs) (λ c. search needs) returns-4)

@@ -14,7 +14,8 @@ use Rattle.signing.proofs.sign_first.Tie as tie
 
 abbrev Inv-loop : tie.InvT-loop
 Inv-loop p powers split set f exponents masks message out₀ rule n count i₀ out i =
-    (i ≤ offeredCount p masks) × (signedBy (drawChallenge rule) p f exponents masks message ≡ signedFrom (drawChallenge rule) p f exponents masks message i) × (out ≡ out₀)
+    (i ≤ offeredCount p masks)
+    × (signedBy (drawChallenge rule) p f exponents masks message ≡ signedFrom (drawChallenge rule) p f exponents masks message i) × (out ≡ out₀)
 
 abbrev μ-loop : tie.MeasureT-loop
 μ-loop p powers split set f exponents masks message out₀ rule n count i₀ out i = count - i
@@ -77,15 +78,16 @@ loop-again c =
     let w = c .before .before .before in
     let a = start w .args in
     let l = turn w .before .loop in
-    let (later, same) = failed-here (drawChallenge (a .rule)) (a .p) (a .f .now) (a .exponents .now) (a .masks .now) (a .message .now) (l .i) (turn w .loop-test .taken)
-    (l .inv .1) (l .inv .2) (tried w) (c .if1 .left) in
+    let (later, same) = failed-here (drawChallenge (a .rule)) (a .p) (a .f .now) (a .exponents .now) (a .masks .now) (a .message .now) (l .i)
+    (turn w .loop-test .taken) (l .inv .1) (l .inv .2) (tried w) (c .if1 .left) in
     (omega arith, later, same)
 
 returns-2 : tie.Need-returns-2 Inv-loop μ-loop
 returns-2 c =
     let a = c .before .before .before .before .before .before .args in
     let l = c .before .loop in
-    none-offered (drawChallenge (a .rule)) (a .p) (a .f .now) (a .exponents .now) (a .masks .now) (a .message .now) (l .i) (c .loop-test .left) (l .inv .1) (l .inv .2)
+    none-offered (drawChallenge (a .rule)) (a .p) (a .f .now) (a .exponents .now) (a .masks .now) (a .message .now) (l .i) (c .loop-test .left)
+    (l .inv .1) (l .inv .2)
 
 pub sign-first-spec : {M : Type 1} → statement M
 sign-first-spec =

@@ -58,7 +58,8 @@ module _ (c : tie.After-challenge-of) where
       ≡ withChallenge (s .p) (s .f .now) (s .y .now) (cond t (some (take (s .p .n) (c .challenge-of .result .challenge))) none)
   tried =
       let s = start w .args in
-      attempt-is (s .rule) (s .p) (s .exponents .now) (s .message .now) (s .f .now) (s .y .now) (c .challenge-of .result) (c .challenge-of .ensures) (committed w .front)
+      let d = c .challenge-of in
+      attempt-is (s .rule) (s .p) (s .exponents .now) (s .message .now) (s .f .now) (s .y .now) (d .result) (d .ensures) (committed w .front)
 
   sparse : c .challenge-of .result .complete ≡ true → Sparse (start w .args .p) (take (start w .args .p .n) (c .challenge-of .result .challenge))
   sparse =
