@@ -2,7 +2,8 @@
 -- For every choice of ternary keys of equal public evaluations, one for each accepted 06, exactly one list of masks within k, one for each, does the
 -- following: each mask, offered alone to the library's signing with its key, gives the same commitment, the same challenge and the signature bytes that
 -- the row prints. It is z minus the product of the key and the challenge at each place. The library's check says yes to each. What each 06 signs with is
--- read from the commands played before it, the rule of hashing too, which the other key and the check have. A list of plays with no accepted 06 has the empty list of masks.
+-- read from the commands played before it, with the rule of hashing, which the other key and the check have too. A list of plays with no accepted 06 has the
+-- empty list of masks.
 -- Assumes nothing.
 use mathlib.Core.List.{List}
 use Prim.Native.Nat.{ℕ}
