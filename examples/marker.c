@@ -8,7 +8,7 @@
 #include <string.h>
 
 /* One byte more than the longest message, so that a longer one is seen and refused. */
-enum { ROOM = PASSIGN_MAX_MESSAGE + 1 };
+enum { ROOM = PASSIGN_MESSAGE_MAX + 1 };
 struct input { uint8_t bytes[ROOM]; size_t length; };
 static struct input key, message, signature;
 
@@ -38,19 +38,6 @@ static uint8_t read_rule(const char *text)
     return (uint8_t)atoi(text);
 }
 
-static const char *meaning(uint32_t refusal)
-{
-    switch (refusal) {
-    case PASSIGN_WRONG_LENGTH: return "the public key or the signature is empty or not of its set's length, or the message has more than 65,535 bytes";
-    case PASSIGN_WRONG_SET: return "the key's first byte is no set 0 to 4, or the signature's is another set";
-    case PASSIGN_WRONG_RULE: return "the rule is not 1 or 2: give the one that the signature was made under";
-    case PASSIGN_WRONG_EXPONENTS: return "the public key's exponents are not strictly increasing in 1..N-1";
-    case PASSIGN_WRONG_EVALUATION: return "an evaluation of the public key is not below q";
-    case PASSIGN_WRONG_ENTRIES: return "a challenge index of the signature is not below N, or not increasing";
-    default: return "not a refusal of passign_check: header and archive do not fit";
-    }
-}
-
 int main(int argc, char **argv)
 {
     if (argc != 5) {
@@ -69,6 +56,6 @@ int main(int argc, char **argv)
         }
         return answer == PASSIGN_YES ? 0 : 1;
     }
-    fprintf(stderr, "marker: refused with %u: %s\n", (unsigned)answer, meaning(answer));
+    fprintf(stderr, "marker: refused with %u: %s\n", (unsigned)answer, passign_refusal_text(answer));
     return 2;
 }

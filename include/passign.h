@@ -1,11 +1,13 @@
-/* PASSign for C: link target/staticlib/libpassign_c.a, which `rt staticlib passign_c` builds.
+/* PASSign for C: link target/staticlib/libpassign_c.a, which `rt staticlib passign_c` builds, or libpassign.a, where bin/install put it.
 
-   Every function takes any contents and any lengths. What is not allowed is refused with a number below 256 (PASSIGN_WRONG_LENGTH and those after it),
-   and a refused call writes nothing.
+   Every function takes any contents and any lengths. What is not allowed is refused with a number below 256 (PASSIGN_WRONG_LENGTH and those after it;
+   passign_refusal_text says what it means), and a refused call writes nothing.
 
-   A slice is a pointer and its length in elements. The pointer is not null, also where the length is 0, is aligned for its elements, and all of
+   A slice is a pointer and its length in elements. The pointer may be null where the length is 0. Else it is aligned for its elements, and all of
    the slice may be read, or written for a result; a result buffer overlaps no other slice. Nothing checks these, nor that there is enough stack:
-   accepted calls were measured to take up to 111 KiB of it (bench/stack; passign_check). The archive is for x86-64.
+   every function runs in PASSIGN_STACK bytes of it (tests/run holds each to it). The archive is for x86-64.
+
+   The functions keep no state: they may be called from several threads at once, as long as no result buffer is shared.
 
    Encodings, numbers of several bytes with the high byte first:
      secret key   the set, then N bytes: 00, 01, or FF for -1
@@ -46,22 +48,59 @@
 #define PASSIGN_RULE_LOW_BYTE 1    /* the low byte of each: commitments that differ by 256 in an evaluation hash alike */
 #define PASSIGN_RULE_THREE_BYTES 2 /* all three bytes of each, low byte first */
 
-/* What passign_check answers where it refuses nothing; passign_sign answers PASSIGN_SIGNED plus the number of masks passed over. */
-#define PASSIGN_NO 0
-#define PASSIGN_YES 256
-#define PASSIGN_SIGNED 256
+/* What is answered where nothing is refused. */
+#define PASSIGN_NO 0       /* by passign_check */
+#define PASSIGN_YES 256    /* by passign_check */
+#define PASSIGN_SIGNED 256 /* by passign_sign, plus the number of masks passed over */
+#define PASSIGN_DONE 0     /* by all others */
 
-/* Limits: bytes of a message, masks of a signing. */
-#define PASSIGN_MAX_MESSAGE 65535
-#define PASSIGN_MAX_MASKS 8
+/* Limits: bytes of a message, masks of a signing, and bytes of stack that a call needs. */
+#define PASSIGN_MESSAGE_MAX 65535
+#define PASSIGN_MASKS_MAX 8
+#define PASSIGN_STACK 131072
 
-/* The bytes of each encoding in a set with these numbers, and room for those of every set. */
-#define PASSIGN_SECRET_KEY_SIZE(N) (1 + (N))
-#define PASSIGN_PUBLIC_KEY_SIZE(t) (1 + 5 * (t))
-#define PASSIGN_SIGNATURE_SIZE(N, b) (1 + 2 * (b) + 2 * (N))
-#define PASSIGN_MAX_SECRET_KEY PASSIGN_SECRET_KEY_SIZE(1153)
-#define PASSIGN_MAX_PUBLIC_KEY PASSIGN_PUBLIC_KEY_SIZE(600)
-#define PASSIGN_MAX_SIGNATURE PASSIGN_SIGNATURE_SIZE(1153, 36)
+/* The numbers of a set and the bytes of its encodings, as in the table above: constant for a constant set, and 0 for what is no set. `set` is evaluated
+   more than once. */
+#define PASSIGN_SETS 5
+#define PASSIGN_OF_SET(set, a, b, c, d, e) ((set) == 0 ? (a) : (set) == 1 ? (b) : (set) == 2 ? (c) : (set) == 3 ? (d) : (set) == 4 ? (e) : 0)
+#define PASSIGN_N(set) PASSIGN_OF_SET(set, 5, 433, 577, 769, 1153)
+#define PASSIGN_Q(set) PASSIGN_OF_SET(set, 31, 775937, 743177, 1047379, 968521)
+#define PASSIGN_K(set) PASSIGN_OF_SET(set, 6, 4095, 16383, 32767, 32767)
+#define PASSIGN_B(set) PASSIGN_OF_SET(set, 2, 19, 24, 29, 36)
+#define PASSIGN_T(set) PASSIGN_OF_SET(set, 2, 200, 280, 386, 600)
+#define PASSIGN_SECRET_KEY_SIZE(set) PASSIGN_OF_SET(set, 6, 434, 578, 770, 1154)
+#define PASSIGN_PUBLIC_KEY_SIZE(set) PASSIGN_OF_SET(set, 11, 1001, 1401, 1931, 3001)
+#define PASSIGN_SIGNATURE_SIZE(set) PASSIGN_OF_SET(set, 15, 905, 1203, 1597, 2379)
+
+/* The largest of each, for room that does for every set. */
+#define PASSIGN_N_MAX 1153
+#define PASSIGN_B_MAX 36
+#define PASSIGN_T_MAX 600
+#define PASSIGN_SECRET_KEY_MAX 1154
+#define PASSIGN_PUBLIC_KEY_MAX 3001
+#define PASSIGN_SIGNATURE_MAX 2379
+
+/* What a refusal number says is wrong, and what to do. */
+static inline const char *passign_refusal_text(uint32_t refusal)
+{
+    switch (refusal) {
+    case PASSIGN_WRONG_LENGTH:
+        return "a list, pool or buffer does not have the length that passign.h lists, an encoding is empty, or a message has more than "
+               "65,535 bytes: lend slices of the lengths of the set";
+    case PASSIGN_WRONG_SET:
+        return "the set is not 0 to 4, or the sets of two encodings differ: choose a set of the table, and check a signature with a "
+               "public key of its own set";
+    case PASSIGN_WRONG_EXPONENTS: return "the exponents are out of 1..N-1, or not strictly increasing: sort the points, each once";
+    case PASSIGN_WRONG_KEY: return "a key value is not -1, 0 or 1: write -1 as FF in a key's bytes, and 0 and 1 as 00 and 01";
+    case PASSIGN_WRONG_MASK: return "a mask coefficient is outside -k..k: draw the mask within k";
+    case PASSIGN_WRONG_EVALUATION: return "a public evaluation is not below q: reduce it to 0..q-1: add q to a negative one";
+    case PASSIGN_NONE_PASSES: return "no mask is held or given, or none passes; a session drops those that it held: give new masks";
+    case PASSIGN_POOL_SPENT: return "the pool is spent before b indices are kept: draw with a longer pool";
+    case PASSIGN_WRONG_ENTRIES: return "a challenge index is not below N, or not increasing: the signature is damaged or not one of this set";
+    case PASSIGN_WRONG_RULE: return "the rule is not 1 or 2: give 1 for the low byte of each evaluation, or 2 for all three bytes";
+    default: return "not a refusal of this library: header and archive do not fit";
+    }
+}
 
 #ifdef __cplusplus
 extern "C" {

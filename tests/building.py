@@ -1,7 +1,9 @@
-"""What the tests build: programs and shared objects of crates, and C programs over the static library."""
+"""What the tests build: programs and shared objects of crates, and C programs over the static library. Each crate is built once a run: rt takes half a
+minute to see that it has nothing to prove."""
 
 import subprocess
 import sys
+from functools import lru_cache
 from pathlib import Path
 
 REPOSITORY = Path(__file__).resolve().parent.parent
@@ -16,15 +18,18 @@ def run(*command):
     except OSError as error:
         said, failed = str(error), True
     if failed:
-        sys.exit(f"{said}\ntests: '{' '.join(map(str, command))}' failed: the tests need rt, and as cc a C compiler with the address and undefined-behaviour sanitizers")
+        sys.exit(f"{said}\ntests: '{' '.join(map(str, command))}' failed: the tests need rt, as cc a C compiler with the address and "
+                 "undefined-behaviour sanitizers, and as c++ one for C++")
 
 
+@lru_cache(maxsize=None)
 def program(crate):
     """The program of a crate; rt builds it anew where it is older than its sources."""
     run("rt", "check", crate)
     return REPOSITORY / "target/bin" / crate
 
 
+@lru_cache(maxsize=None)
 def archive(crate):
     """A crate's static library. rt proves the crate first, unless that is done already."""
     run("rt", "staticlib", crate)
@@ -37,7 +42,8 @@ def shared_object(crate):
     return shared
 
 
-def c_program(source, to, *flags):
-    """A C program over include/passign.h."""
-    run("cc", "-O1", "-g", "-Wall", "-Wextra", "-Werror", "-fno-sanitize-recover=all", *flags, f"-I{REPOSITORY}/include", REPOSITORY / source, archive("passign_c"), "-o", to)
+def c_program(source, to, *flags, compiler="cc", crates=("passign_c",)):
+    """A C program over include/passign.h and the static libraries of crates. A flag may be one more source."""
+    run(compiler, "-O1", "-g", "-Wall", "-Wextra", "-Werror", "-fno-sanitize-recover=all", *flags, f"-I{REPOSITORY}/include", REPOSITORY / source,
+        *map(archive, crates), "-o", to)
     return to

@@ -1,4 +1,4 @@
-"""The kit's library, as a shared object, called with guarded buffers."""
+"""The kit's library: as a shared object, called with guarded buffers, and calls as the test programs in C read them."""
 
 import ctypes
 from array import array
@@ -6,6 +6,8 @@ from array import array
 GUARD = bytes(range(0xA0, 0xE0))  # 64 bytes: keeps what follows aligned for every element
 
 NUMBERS = ("set", "rule")  # arguments of one byte
+ENTRIES = ("check", "sign", "public_key", "evaluate", "evaluate_all", "draw", "read_secret_key", "write_secret_key",
+           "read_public_key", "write_public_key", "read_signature", "write_signature")  # in the header's order
 
 # The element type (of module array) of each lent slice by its name, and of `out` by its entry.
 ELEMENTS = {"coefficients": "h", "points": "H", "pool": "B", "secret_key": "B", "masks": "h",
@@ -41,11 +43,24 @@ class Guarded:
         return ctypes.string_at(self.memory, self.size)
 
 
+def fed(function, number, slices):
+    """A call as tests/calls.h reads it, of slices as arrays."""
+    head = bytes((function, number, len(slices)))
+    return head + b"".join(len(each).to_bytes(4, "little") + bytes((each.itemsize,)) + each.tobytes() for each in slices)
+
+
+def as_fed(entry, arguments):
+    """The same, of an entry's arguments."""
+    number = next((values for name, values in arguments.items() if name in NUMBERS), 0)
+    slices = [array(element(entry, name), values) for name, values in arguments.items() if name not in NUMBERS]
+    return fed(ENTRIES.index(entry), number, slices)
+
+
 def load(path):
-    """A function (entry, arguments) -> (answer, the guarded bytes of each lent slice after it)."""
+    """A function (entry, arguments) -> (answer, the guarded bytes of each lent slice after it). Slices named in `null` are empty and lent as null pointers."""
     library = ctypes.CDLL(str(path))
 
-    def call(entry, arguments):
+    def call(entry, arguments, null=()):
         function = getattr(library, f"passign_{entry}")
         function.restype = ctypes.c_uint32
         passed, lent = [], {}
@@ -54,7 +69,8 @@ def load(path):
                 passed.append(ctypes.c_uint8(values))
                 continue
             lent[argument] = Guarded(as_bytes(entry, argument, values))
-            passed += [ctypes.c_void_p(lent[argument].address), ctypes.c_size_t(len(values))]
+            address = None if argument in null else lent[argument].address
+            passed += [ctypes.c_void_p(address), ctypes.c_size_t(len(values))]
         answer = function(*passed)
         return answer, {argument: memory.now() for argument, memory in lent.items()}
 

@@ -4,6 +4,8 @@
 sessions/: document 01's session, and for each set one in which a mask is passed over, a signature is accepted and the check says yes; key-life
 shows what 0A does, rules what 0B does. Each NAME.session has its rows beside it, NAME.rows, as the reference plays it.
 marker/: a public key, a message and two signatures of set 1: the check says yes to `signature` under rule 1, and to `signature-rule-2` under rule 2.
+texts/: set-1.txt packs to sessions/set-1.session, with its numbers in the files of set-1/ (first.txt is written by hand).
+sign/: the secret key of that public key, its points, the message, and three masks, of which under rule 1 the first is passed over and the second signs.
 """
 
 import sys
@@ -14,6 +16,7 @@ sys.dont_write_bytecode = True
 TESTS = Path(__file__).resolve().parent
 sys.path.insert(0, str(TESTS))
 
+import commands_played  # noqa: E402
 import material  # noqa: E402
 import sessions  # noqa: E402
 from reference import encodings  # noqa: E402
@@ -73,18 +76,56 @@ def examples():
         yield f"set-{s.number}", signed_and_checked(s)
 
 
-def for_the_marker(s):
+def of_the_marker(s):
+    """Key, points and message, and the numbers that the masks come from."""
     rng = Random(f"example of the marker in set {s.number}")
-    f, at, text = material.key(rng, s), material.points(rng, s), b"Unit four, exercise 17\n"
+    return material.key(rng, s), material.points(rng, s), b"Unit four, exercise 17\n", rng
+
+
+def for_the_marker(s):
+    f, at, text, rng = of_the_marker(s)
     yield "public_key", material.public_key(s, f, at)
     yield "message", text
     yield "signature", material.signature(rng, s, f, at, text, LOW_BYTE_RULE)
     yield "signature-rule-2", material.signature(rng, s, f, at, text, THREE_BYTE_RULE)
 
 
+def lines_of(numbers):
+    """Twenty to a line."""
+    return b"".join(" ".join(map(str, numbers[at:at + 20])).encode() + b"\n" for at in range(0, len(numbers), 20))
+
+
+def for_signing(s):
+    f, at, text, _ = of_the_marker(s)
+    rng = Random(f"example of signing in set {s.number}")
+    masks = [material.failing_mask(rng, s, f, at, text, LOW_BYTE_RULE), material.passing_mask(rng, s), material.passing_mask(rng, s)]
+    yield "secret_key", encodings.write_secret_key(s, f)
+    yield "points.txt", lines_of(at)
+    yield "masks.txt", b"\n".join(map(lines_of, masks))
+    yield "message", text
+
+
+def as_text(s):
+    """The text of the session of a set, and the files of numbers that it names."""
+    file = signed_and_checked(s)
+    played = commands_played.commands(file, play_to_the_end(file).decode().splitlines())
+    points, key, message, *masks = [each.operand for each in played if each.command in (0x02, 0x03, 0x05, 0x04)]
+    numbers = {"points": encodings.numbers(points, 2), "key": encodings.read_key(key),
+               **{f"mask-{at}": encodings.numbers(mask, 2, signed=True) for at, mask in enumerate(masks, 1)}}
+    lines = [f"# The session set-{s.number}.session, its numbers in files of their own", f"set {s.number}", f"points @set-{s.number}/points.txt",
+             f"key @set-{s.number}/key.txt", f"message hex {message.hex().upper()}",
+             *(f"mask @set-{s.number}/mask-{at}.txt" for at in range(1, len(masks) + 1)), "sign", "check last", "end"]
+    yield f"set-{s.number}.txt", "".join(line + "\n" for line in lines).encode()
+    for name, values in numbers.items():
+        yield f"set-{s.number}/{name}.txt", lines_of(values)
+
+
 def main():
-    for name, content in for_the_marker(SETS[1]):
-        (TESTS.parent / "examples/marker" / name).write_bytes(content)
+    for folder, files in (("marker", for_the_marker(SETS[1])), ("sign", for_signing(SETS[1])), ("texts", as_text(SETS[1]))):
+        for name, content in files:
+            path = TESTS.parent / "examples" / folder / name
+            path.parent.mkdir(parents=True, exist_ok=True)
+            path.write_bytes(content)
     folder = TESTS.parent / "examples/sessions"
     folder.mkdir(parents=True, exist_ok=True)
     for name, file in examples():

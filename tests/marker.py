@@ -1,11 +1,12 @@
 """examples/marker.c, built plain and under the address and undefined-behaviour sanitizers, on good, damaged and wrong-set files and under every kind
-of rule: its row, its exit status and its refusal number must be what the reference says."""
+of rule: its row, its exit status and its refusal number must be what the reference says, and the number's text the header's."""
 
 import subprocess
 from pathlib import Path
 from random import Random
 from tempfile import TemporaryDirectory
 
+import headers
 import material
 from building import REPOSITORY, SANITIZERS, c_program
 from damages import put
@@ -58,14 +59,13 @@ def marked(program, *arguments, out=subprocess.PIPE):
     return subprocess.run([program, *map(str, arguments)], text=True, stdout=out, stderr=subprocess.PIPE)
 
 
-def as_wanted(done, row, status, number):
-    said = done.stderr.startswith(f"marker: refused with {number}: ") if status == 2 else done.stderr == ""
-    said &= done.stderr.count("\n") == (status == 2) and "not a refusal" not in done.stderr
-    return (done.stdout, done.returncode, said) == (row, status, True)
+def as_wanted(done, row, status, number, texts):
+    said = f"marker: refused with {number}: {texts[number]}\n" if status == 2 else ""
+    return (done.stdout, done.returncode, done.stderr) == (row, status, said)
 
 
 def cases_agree(seed, programs, folder, seen):
-    names = [folder / name for name in FILES]
+    names, texts = [folder / name for name in FILES], headers.refusal_texts()
     for name, *contents, rule in cases(seed):
         for path, content in zip(names, contents):
             path.write_bytes(content)
@@ -73,7 +73,7 @@ def cases_agree(seed, programs, folder, seen):
         seen.add(number if status == 2 else row)
         for program in programs:
             done = marked(program, *names, rule)
-            if not as_wanted(done, row, status, number):
+            if not as_wanted(done, row, status, number, texts):
                 print(f"marker: DIFFERENCE in '{name}': row {done.stdout!r}, status {done.returncode}, {done.stderr!r}; "
                       f"reference {row!r}, {status}, {number}; again: tests/run --seed {seed}")
                 return False
