@@ -57,7 +57,8 @@ def run(seed, kit_call):
             for null in ((), chosen):
                 text = difference(call, lambda entry, arguments: kit_call(entry, arguments, null), answer, after)
                 if text:
-                    print(f"null pointers: DIFFERENCE in passign_{entry}, {call.name}, lent {'as null' if null else 'not as null'}: {text}; again: tests/run --seed {seed}")
+                    print(f"null pointers: DIFFERENCE in passign_{entry}, {call.name}, lent {'as null' if null else 'not as null'}: {text}; "
+                          f"again: tests/run --seed {seed}")
                     return False
             accepted[entry] += answer in (SIGNED, YES) and chosen == ("message",)
             made += 1

@@ -19,8 +19,8 @@ SESSIONS = REPOSITORY / "examples/sessions"
 TEXT = 'set 0\npoints 1 4\nkey 0 1 -1 -1 0\nmessage "Unit four, exercise 17"\nmask 1 -1 1 -6 2\nmask -1 -1 1 2 2\nsign\ncheck last\nend\n'
 
 
-def called(*arguments, given=b"", folder=None, out=subprocess.PIPE):
-    done = subprocess.run([REPOSITORY / "bin/session", *arguments], input=given, cwd=folder, stdout=out, stderr=subprocess.PIPE)
+def called(*arguments, given=b"", folder=None, out=subprocess.PIPE, **environment):
+    done = subprocess.run([REPOSITORY / "bin/session", *arguments], input=given, cwd=folder, stdout=out, stderr=subprocess.PIPE, env={**os.environ, **environment})
     return done.returncode, done.stdout, done.stderr.decode()
 
 
@@ -44,6 +44,9 @@ def faults_of_files(folder):
         yield f"show gives {shown}, from standard input {piped}"
     if called("pack", "-", given=text[1]) != (0, file, ""):
         yield f"the text of show packs to other bytes: {text}"
+    accents = 'set 0\nmessage "é√𝄞 \\"#\\\\"\nend\n'.encode()
+    if called("show", "--text", "-", given=called("pack", "-", given=accents)[1], PYTHONIOENCODING="ascii") != (0, accents, ""):
+        yield "a message with accents does not come back as it was written"
     if called("pack", REPOSITORY / "examples/texts/set-1.txt") != (0, (SESSIONS / "set-1.session").read_bytes(), ""):
         yield "examples/texts/set-1.txt does not pack to set-1.session: run tests/make_examples.py"
 

@@ -108,6 +108,7 @@ def parser():
 
 
 def main():
+    sys.stdout.reconfigure(encoding="utf-8", errors="surrogateescape")  # as texts are read, whatever the terminal's; names of files may be any bytes
     options = parser().parse_args()
     try:
         options.run(options)
