@@ -16,7 +16,8 @@ from building import REPOSITORY
 
 CRATES = "# four of them are wanted\nalpha:\nbeta: alpha\ngamma: alpha beta\nother: alpha\nplay: gamma io libc\n"
 WANTED = ("alpha", "beta", "gamma", "play")
-MOST_SECONDS = 30
+MOST_SECONDS = 60
+TIME = r"\d+:\d\d"
 
 # As rt does, it proves in the background, where an interrupt of the terminal is not heard, and leaves its words in target/log. The player is there from the
 # start, as one of which the linker has written a part.
@@ -90,12 +91,12 @@ def on_terminal(copy, command, interrupt_at=None):
 
 def fault_elsewhere(folder):
     """A line for each crate that is wanted, and none where nothing is to be built."""
-    copy = Copy(folder, 0.7)
+    copy = Copy(folder, 1.2)
     status, rows, told = copy.run("bin/play", "a.session")
-    lines = [re.fullmatch(r"proving (\w+): (\d) of 4 crates proved, 0:0\d so far", line) for line in told.splitlines()[1:-1]]
+    lines = [re.fullmatch(rf"proving (\w+): (\d) of 4 crates proved, {TIME} so far", line) for line in told.splitlines()[1:-1]]
     if not all(lines) or [line.groups() for line in lines] != [(crate, str(at)) for at, crate in enumerate(WANTED)]:
         return f"elsewhere bin/play tells {told!r}"
-    if (status, rows) != (0, "0 00 15\n") or not told.splitlines()[-1].startswith("built target/bin/play in 0:0") or copy.left_over():
+    if (status, rows) != (0, "0 00 15\n") or not told.splitlines()[-1].startswith("built target/bin/play in ") or copy.left_over():
         return f"bin/play ends with {status}, {rows!r} and {told!r}, and leaves {copy.left_over()}"
     again = copy.run("bin/play", "a.session"), copy.run("bin/session", "show", "a.session")[::2]
     return None if again == ((0, "0 00 15\n", ""), (0, "")) else f"a second run tells {again}"
@@ -103,22 +104,23 @@ def fault_elsewhere(folder):
 
 def fault_on_terminal(folder):
     """One line, which is written over; the last one stays."""
-    copy = Copy(folder, 0.7)
+    copy = Copy(folder, 1.2)
     status, shown = on_terminal(copy, ["bin/play", "a.session"])
     lines = [line for line in re.sub(r"[^\n]*\r\x1b\[K", "", shown.replace("\r\n", "\n")).split("\n") if line]
-    if status != 0 or len(lines) != 2 or not lines[0].startswith("built target/bin/play in 0:0") or lines[1] != "0 00 15":
+    if status != 0 or len(lines) != 2 or not lines[0].startswith("built target/bin/play in ") or lines[1] != "0 00 15":
         return f"on a terminal bin/play leaves {lines}, status {status}"
-    missing = [crate for at, crate in enumerate(WANTED) if f"proving {crate}: {at} of 4 crates proved, 0:0" not in shown]
+    missing = [crate for at, crate in enumerate(WANTED) if not re.search(rf"proving {crate}: {at} of 4 crates proved, {TIME} so far", shown)]
     return f"a terminal does not show that {missing} are proved: {shown!r}" if missing else None
 
 
 def fault_of_interrupt(folder, *command):
-    copy = Copy(folder, 1)
-    status, shown = on_terminal(copy, list(command), b"proving beta")
-    ended = "beta" not in (copy.stand_in / "proved").read_text()  # or it was waited for
-    if status not in (130, -signal.SIGINT) or "stopped after 0:0" not in shown or "Traceback" in shown or copy.left_over() or not ended:
-        return f"{command[0]}, interrupted, ends with {status}, shows {shown!r} and leaves {copy.left_over()}"
-    again = copy.run(*command)
+    """What is being proved is ended, and not waited for; the next run does all of it."""
+    copy = Copy(folder, 8)
+    status, shown = on_terminal(copy, list(command), b"proving alpha")
+    ended = not (copy.stand_in / "proved").exists()
+    if status not in (130, -signal.SIGINT) or "stopped after" not in shown or "Traceback" in shown or copy.left_over() or not ended:
+        return f"{command[0]}, interrupted, ends with {status}, shows {shown!r} and leaves {copy.left_over()}{'' if ended else ', after waiting'}"
+    again = copy.run(*command, DELAY="0")
     return None if again[0] == 0 and "0 00 15" in again[1] else f"{command[0]} after an interrupt: {again}"
 
 
@@ -134,7 +136,7 @@ def fault_of_failure(folder):
 
 def fault_of_two(folder):
     """The second waits for the first, and builds nothing."""
-    copy = Copy(folder, 0.5)
+    copy = Copy(folder, 1)
     first = subprocess.Popen(["bin/play", "a.session"], cwd=copy.root, env=copy.environment, stdout=subprocess.DEVNULL, stderr=subprocess.DEVNULL)
     while not (copy.stand_in / "pids").exists():
         time.sleep(0.05)
