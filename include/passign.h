@@ -1,13 +1,21 @@
-/* PASSign for C: link target/staticlib/libpassign_c.a, which `rt staticlib passign_c` builds, or libpassign.a, where bin/install put it.
+/* PASSign for C (C99 or newer) and C++: link target/staticlib/libpassign_c.a, which `rt staticlib passign_c` builds, or libpassign.a, where bin/install put
+   it. The archive is for x86-64.
 
    Every function takes any contents and any lengths. What is not allowed is refused with a number below 256 (PASSIGN_WRONG_LENGTH and those after it;
-   passign_refusal_text says what it means), and a refused call writes nothing.
+   passign_refusal_text says what it means), and a refused call writes nothing. Behind each function stand its refusals in the order of their tests, but
+   that 1 is tested in two places: a message that is too long and an empty encoding before 2, all other lengths after it.
 
    A slice is a pointer and its length in elements. The pointer may be null where the length is 0. Else it is aligned for its elements, and all of
-   the slice may be read, or written for a result; a result buffer overlaps no other slice. Nothing checks these, nor that there is enough stack:
-   every function runs in PASSIGN_STACK bytes of it (tests/run holds each to it). The archive is for x86-64.
+   the slice may be read, or written for a result; a result buffer overlaps no other slice, and has just the length that its set has: of an array
+   signature[PASSIGN_SIGNATURE_MAX] lend PASSIGN_SIGNATURE_SIZE(set) bytes. Nothing checks the pointers, nor that there is enough stack: a function
+   needs PASSIGN_STACK bytes of it below its caller's frames (tests/run holds each to it).
 
    The functions keep no state: they may be called from several threads at once, as long as no result buffer is shared.
+
+   The evaluation of N coefficients at a point, an exponent j in 1..N-1, is the sum of coefficient i times g to the (i times j), modulo q. The public
+   key has those of the key, the commitment is those of the mask. Masks must be drawn evenly from -k..k, be secret, and be used once, those that were passed
+   over too. One passes with the probability ((2(k-b)+1) / (2k+1)) to the N: 0.16, 0.13, 0.43, 0.51 and 0.28 in sets 0 to 4. So a refusal with 9 is no
+   fault: sign again with new masks.
 
    Encodings, numbers of several bytes with the high byte first:
      secret key   the set, then N bytes: 00, 01, or FF for -1
@@ -20,12 +28,12 @@
 
    Set 0 is for work by hand: about one wrong message in forty gets a yes there. Do not mark with it.
 
-     set   N     q        k      b   t    secret key  public key  signature (bytes)
-     0     5     31       6      2   2    6           11          15
-     1     433   775937   4095   19  200  434         1001        905
-     2     577   743177   16383  24  280  578         1401        1203
-     3     769   1047379  32767  29  386  770         1931        1597
-     4     1153  968521   32767  36  600  1154        3001        2379                */
+     set   N     q        g       k      b   t    secret key  public key  signature (bytes)
+     0     5     31       2       6      2   2    6           11          15
+     1     433   775937   268673  4095   19  200  434         1001        905
+     2     577   743177   296108  16383  24  280  578         1401        1203
+     3     769   1047379  421722  32767  29  386  770         1931        1597
+     4     1153  968521   56574   32767  36  600  1154        3001        2379                */
 #ifndef PASSIGN_H
 #define PASSIGN_H
 
@@ -65,6 +73,7 @@
 #define PASSIGN_OF_SET(set, a, b, c, d, e) ((set) == 0 ? (a) : (set) == 1 ? (b) : (set) == 2 ? (c) : (set) == 3 ? (d) : (set) == 4 ? (e) : 0)
 #define PASSIGN_N(set) PASSIGN_OF_SET(set, 5, 433, 577, 769, 1153)
 #define PASSIGN_Q(set) PASSIGN_OF_SET(set, 31, 775937, 743177, 1047379, 968521)
+#define PASSIGN_G(set) PASSIGN_OF_SET(set, 2, 268673, 296108, 421722, 56574)
 #define PASSIGN_K(set) PASSIGN_OF_SET(set, 6, 4095, 16383, 32767, 32767)
 #define PASSIGN_B(set) PASSIGN_OF_SET(set, 2, 19, 24, 29, 36)
 #define PASSIGN_T(set) PASSIGN_OF_SET(set, 2, 200, 280, 386, 600)
@@ -91,14 +100,14 @@ static inline const char *passign_refusal_text(uint32_t refusal)
         return "the set is not 0 to 4, or the sets of two encodings differ: choose a set of the table, and check a signature with a "
                "public key of its own set";
     case PASSIGN_WRONG_EXPONENTS: return "the exponents are out of 1..N-1, or not strictly increasing: sort the points, each once";
-    case PASSIGN_WRONG_KEY: return "a key value is not -1, 0 or 1: write -1 as FF in a key's bytes, and 0 and 1 as 00 and 01";
+    case PASSIGN_WRONG_KEY: return "a key value is not -1, 0 or 1: use these alone; in bytes -1 is FF, 0 is 00 and 1 is 01";
     case PASSIGN_WRONG_MASK: return "a mask coefficient is outside -k..k: draw the mask within k";
     case PASSIGN_WRONG_EVALUATION: return "a public evaluation is not below q: reduce it to 0..q-1: add q to a negative one";
-    case PASSIGN_NONE_PASSES: return "no mask is held or given, or none passes; a session drops those that it held: give new masks";
+    case PASSIGN_NONE_PASSES: return "no mask is given, or none passes: give new masks: one in two to eight passes, by the set";
     case PASSIGN_POOL_SPENT: return "the pool is spent before b indices are kept: draw with a longer pool";
     case PASSIGN_WRONG_ENTRIES: return "a challenge index is not below N, or not increasing: the signature is damaged or not one of this set";
     case PASSIGN_WRONG_RULE: return "the rule is not 1 or 2: give 1 for the low byte of each evaluation, or 2 for all three bytes";
-    default: return "not a refusal of this library: header and archive do not fit";
+    default: return "no refusal of this library: 0, and 256 and more, are answers; for any other number header and archive do not fit";
     }
 }
 
@@ -129,8 +138,8 @@ uint32_t passign_evaluate(uint8_t set, const int16_t *coefficients, size_t coeff
 uint32_t passign_evaluate_all(uint8_t set, const int16_t *coefficients, size_t coefficients_length,
                               int32_t *evaluations, size_t evaluations_length);
 
-/* Draws the challenge of a pool of 64 to 512 bytes, a multiple of 64, as N coefficients, exactly b of them 1 or -1 and the others 0:
-   0, else the refusal number (1, 2, 11). */
+/* Draws the challenge of a pool of 64 to 512 bytes, a multiple of 64, as N coefficients, exactly b of them 1 or -1 and the others 0: 0, else the refusal
+   number (1, 2, 11). Signing and checking make their pool themselves, of eight digests. */
 uint32_t passign_draw(uint8_t set, const uint8_t *pool, size_t pool_length, int8_t *challenge, size_t challenge_length);
 
 /* Reads a secret key into N coefficients, each -1, 0 or 1: 0, else the refusal number (1, 2, 5). */

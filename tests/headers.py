@@ -16,14 +16,14 @@ STANDARDS = {"c99": "cc", "c11": "cc", "c++11": "c++", "c++17": "c++"}
 WARNINGS = ("-Wall", "-Wextra", "-Wpedantic", "-Werror", f"-I{REPOSITORY}/include")
 
 # By name without PASSIGN_: what each set has, in the order of the header's table, the largest of these, and other numbers.
-OF_A_SET = {"N": lambda s: s.N, "Q": lambda s: s.q, "K": lambda s: s.k, "B": lambda s: s.b, "T": lambda s: s.t,
+OF_A_SET = {"N": lambda s: s.N, "Q": lambda s: s.q, "G": lambda s: s.g, "K": lambda s: s.k, "B": lambda s: s.b, "T": lambda s: s.t,
             "SECRET_KEY_SIZE": encodings.secret_key_length, "PUBLIC_KEY_SIZE": encodings.public_key_length, "SIGNATURE_SIZE": encodings.signature_length}
 LARGEST = {"N_MAX": "N", "B_MAX": "B", "T_MAX": "T", "SECRET_KEY_MAX": "SECRET_KEY_SIZE", "PUBLIC_KEY_MAX": "PUBLIC_KEY_SIZE", "SIGNATURE_MAX": "SIGNATURE_SIZE"}
 NUMBERS = {"SETS": len(SETS), "MESSAGE_MAX": library.MOST_MESSAGE_BYTES, "MASKS_MAX": library.MOST_MASKS, "STACK": 128 * 1024,
            "YES": library.YES, "NO": library.NO, "SIGNED": library.SIGNED, "DONE": library.DONE,
            **{name: max(map(OF_A_SET[size], SETS)) for name, size in LARGEST.items()}}
 NO_SETS = (5, 255)
-NOT_A_REFUSAL = "not a refusal of this library: header and archive do not fit"
+NOT_A_REFUSAL = "no refusal of this library: 0, and 256 and more, are answers; for any other number header and archive do not fit"
 ELEMENTS = {"u8": "uint8_t", "i8": "int8_t", "u16": "uint16_t", "i16": "int16_t", "u32": "uint32_t", "i32": "int32_t", "usize": "size_t"}
 
 
@@ -126,7 +126,7 @@ def numbers_agree():
 
 def table_agrees():
     """The table in the header's comment."""
-    rows = re.findall(r"^     (\d(?: +\d+){8})\b", (REPOSITORY / "include/passign.h").read_text(), re.MULTILINE)
+    rows = re.findall(r"^     (\d(?: +\d+){9})\b", (REPOSITORY / "include/passign.h").read_text(), re.MULTILINE)
     wanted = [[s.number, *(of(s) for of in OF_A_SET.values())] for s in SETS]
     if [list(map(int, row.split())) for row in rows] == wanted:
         return True

@@ -8,7 +8,8 @@ from tempfile import TemporaryDirectory
 
 from building import REPOSITORY
 
-FILES = {"lib/libpassign.a": 0o644, "include/passign.h": 0o644, "lib/pkgconfig/passign.pc": 0o644, "bin/passign-play": 0o755}
+FILES = {"lib/libpassign.a": 0o644, "include/passign.h": 0o644, "lib/pkgconfig/passign.pc": 0o644, "bin/passign-play": 0o755,
+         "libexec/passign-play": 0o755}
 EXAMPLES = REPOSITORY / "examples"
 
 
@@ -47,20 +48,32 @@ def faults_of_marker(prefix, folder):
 
 
 def faults_of_player(prefix):
+    """Called with a file and with standard input, and wrongly; bin/play, also through a link, is the same."""
     for session in sorted((EXAMPLES / "sessions").glob("*.session")):
-        with open(session, "rb") as file:
-            printed = subprocess.run([prefix / "bin/passign-play"], stdin=file, stdout=subprocess.PIPE).stdout
-        if printed != session.with_suffix(".rows").read_bytes():
-            yield f"passign-play gives other rows for {session.name}"
+        rows = session.with_suffix(".rows").read_bytes()
+        for call in (f"'{session}'", f"< '{session}'"):
+            printed = subprocess.run(f"{prefix}/bin/passign-play {call}", shell=True, stdin=subprocess.DEVNULL, stdout=subprocess.PIPE).stdout
+            if printed != rows:
+                yield f"passign-play {call} gives other rows"
+    (prefix / "link").symlink_to(REPOSITORY / "bin/play")
+    session = EXAMPLES / "sessions/set-0.session"
+    for player in (f"{prefix}/bin/passign-play", f"{prefix}/link"):
+        for call, status, words in (("--help", 0, ""), (f"{session} {session}", 2, "usage"), ("-x", 2, "usage"), ("''", 2, "usage"),
+                                    ("none", 2, "there is no such file"), ("/", 2, "it is a folder"), ("< /", 2, "it is a folder"), ("<&-", 2, "it is closed"),
+                                    (f"{session} > /dev/full", 2, "cannot write the rows"), (f"{session} >&-", 2, "cannot write the rows"),
+                                    (f"{session} | head -c 1 > /dev/null", 0, ""), (f"{session} > /dev/null", 0, "")):
+            done = subprocess.run(f"{player} {call}", shell=True, stdout=subprocess.PIPE, stderr=subprocess.PIPE, text=True)
+            if done.returncode != status or words not in done.stderr or (done.stderr != "") != (status != 0):
+                yield f"{player} {call} ends with {done.returncode} and tells {done.stderr!r}"
 
 
 def faults_of_use(folder):
     """Wrong calls say what to give, and write nothing."""
     (folder / "file").write_text("")
-    for arguments, words in (((), "usage"), (("a", "b"), "usage"), (("",), "usage"), (("--help",), "usage"), (("a b",), "white space"),
-                             ((folder / "file/below",), "cannot write below")):
+    for arguments, words in (((), "usage"), (("a", "b"), "usage"), (("",), "usage"), (("-x",), "usage"), (("a b",), "white space"),
+                             (("a#b",), "white space"), ((folder / "file/below",), "cannot write below")):
         status, out, told = installed(*arguments, folder=folder)
-        if status != 2 or out or words not in told:
+        if status != 2 or out or words not in told or told.count("\n") != 1:
             yield f"bin/install {arguments} ends with {status}, {out!r} and {told!r}"
 
 

@@ -4,7 +4,9 @@ import ast
 import os
 import pty
 import re
+import signal
 import subprocess
+import time
 from pathlib import Path
 from tempfile import TemporaryDirectory
 from xml.etree import ElementTree
@@ -64,18 +66,20 @@ def faults_of_mistakes(folder):
     """Status 2, one line that says what to do, and no file."""
     (folder / "wrong.txt").write_text("set 0\npoints 1\nsign 1\n")
     (folder / "right.txt").write_text("end\n")
-    (folder / "bytes").write_bytes(b"PSG1\xff")
+    (folder / "bytes").write_bytes(b"set 0\nmessage \"Gr\xfc\xdfe\"\n")
     (folder / "none.session").write_bytes(b"PSG1\0")
     right = folder / "right.txt"
     cases = (
         (("pack", folder / "wrong.txt", "-o", folder / "out"), [f"{folder}/wrong.txt, line 2: found 1 number", f"{folder}/wrong.txt, line 3: found '1'"]),
         (("pack", folder / "no.txt"), ["cannot read", "give the path of a file"]),
-        (("pack", folder / "bytes"), ["is no text: give a text of commands"]),
+        (("pack", folder / "bytes"), ["line 2: found bytes that are not UTF-8", "saved as UTF-8"]),
+        (("pack", folder / "none.session"), ["is a session file: bin/session show shows it"]),
+        (("pack", right, "-o", right), ["is the text itself: give another place"]),
         (("pack", folder), ["cannot read"]),
         (("pack", right, "-o", folder / "no/such"), ["cannot write", "give another place with -o"]),
         (("show", folder / "no.session"), ["cannot read"]),
         (("plot", folder / "none.session", "-o", folder), ["has no signature", "bin/session show tells why"]),
-        (("plot", SESSIONS / "set-0.session", "-o", folder / "no"), ["cannot write", "give another place with -o"]),
+        (("plot", SESSIONS / "set-0.session", "-o", right), ["cannot make the folder", "give another place with -o"]),
     )
     for arguments, words in cases:
         status, out, told = called(*arguments)
@@ -84,11 +88,31 @@ def faults_of_mistakes(folder):
             yield f"bin/session {' '.join(map(str, arguments))} ends with {status} and tells {told!r}, not {words}"
     if on_terminal("pack", right)[::2] != (2, "bin/session: a session file is bytes, not for a terminal: give its name with -o, or redirect standard output\n"):
         yield "pack writes bytes to a terminal"
-    if (folder / "out").exists() or list(folder.glob("*.svg")):
+    if right.read_text() != "end\n" or (folder / "out").exists() or list(folder.glob("*.svg")):
         yield "a mistake leaves a file"
     long = "no-tag\n" + 65537 * "raw 00\n"
     if called("pack", "-", given=long.encode()) != (0, bytes(65537), "bin/session: this file has 65537 bytes, and the player takes 65536: it refuses it with 1\n"):
         yield "pack does not tell of a file that is too long"
+
+
+def faults_of_streams():
+    """A full disk, closed streams and an interrupt end it with a line, or none, and no traceback."""
+    session, text = SESSIONS / "set-0.session", REPOSITORY / "examples/texts/first.txt"
+    for line, status, told in ((f"show {session} > /dev/full", 2, "cannot write: No space left on device: see to standard output"),
+                               (f"pack {text} > /dev/full", 2, "cannot write: No space left on device: see to standard output"),
+                               (f"show {session} >&-", 2, "cannot write: standard output is closed"),
+                               ("show - <&-", 2, "cannot read standard input: it is closed"),
+                               (f"show {SESSIONS / 'set-4.session'} --full | head -c 1 | wc -c", 0, None)):
+        done = subprocess.run(f"{REPOSITORY}/bin/session {line}", shell=True, stdout=subprocess.PIPE, stderr=subprocess.PIPE, text=True)
+        if done.returncode != status or done.stderr != (f"bin/session: {told}\n" if told else ""):
+            yield f"bin/session {line} ends with {done.returncode} and tells {done.stderr!r}"
+    waiting = subprocess.Popen([REPOSITORY / "bin/session", "show", "-"], stdin=subprocess.PIPE, stderr=subprocess.PIPE, text=True,
+                               preexec_fn=lambda: signal.signal(signal.SIGINT, signal.default_int_handler))
+    time.sleep(1)
+    waiting.send_signal(signal.SIGINT)
+    told = waiting.communicate()[1]
+    if waiting.returncode not in (130, -signal.SIGINT) or told:
+        yield f"an interrupt of bin/session show - ends with {waiting.returncode} and tells {told!r}"
 
 
 # ── Pictures ────────────────────────────────────────────────────────────────────────────────────
@@ -134,6 +158,9 @@ def faults_of_pictures(folder):
                 yield from picture_faults(picture, SETS[signature[0]], signature[1:])
     last = damaged[-1 - 2 * 19 - 2 * 433:-1]
     yield from picture_faults(folder / "range-row-8.svg", SETS[1], bytes(last))
+    plotted = called("plot", SESSIONS / "set-0.session", "-o", folder / "made/anew")
+    if plotted[0] or not (folder / "made/anew/set-0-row-7.svg").exists():
+        yield f"plot into a folder that is not there gives {plotted}"
     subtitles = [(folder / name).read_text() for name in ("set-0-row-7.svg", "entries-row-8.svg")]
     if "signed in row 7, 1 mask passed over; checked in row 8: yes" not in subtitles[0] or "refused with 12 in row 8" not in subtitles[1]:
         yield "a picture does not tell which rows its signature is of"
@@ -154,7 +181,7 @@ def run():
     """True when all is as it should be."""
     with TemporaryDirectory() as folder:
         folder = Path(folder)
-        faults = [*faults_of_syntax(), *faults_of_files(folder), *faults_of_mistakes(folder), *faults_of_pictures(folder)]
+        faults = [*faults_of_syntax(), *faults_of_files(folder), *faults_of_mistakes(folder), *faults_of_streams(), *faults_of_pictures(folder)]
         pictures = len(list(folder.glob("*.svg")))
     for fault in faults:
         print(f"bin/session: DIFFERENCE: {fault}")

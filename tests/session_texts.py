@@ -1,6 +1,7 @@
 """bin/session on the sessions of tests/sessions.py and on texts: a file's text packs to the same bytes, however it is spaced and wherever its numbers and
 signatures stand; each row and each refusal is shown; and each mistake is told with its line."""
 
+import re
 import sys
 from collections import Counter
 from pathlib import Path
@@ -31,7 +32,7 @@ def rewritten(rng, line, signature, folder, seen):
     if isinstance(getattr(commands.BY_WORD.get(word), "operand", None), commands.Numbers):
         if rng.random() < 0.3:
             file = folder / f"{rng.getrandbits(32):08x}.txt"
-            file.write_text(rng.choice((" ", ",", ", ", "\n", "\r\n", "\t")).join(rest) + rng.choice(("", "\n")))
+            file.write_text(rng.choice((" ", ",", ", ", "\n", "\r\n", "\t", " # one\n")).join(rest) + rng.choice(("", "\n", "# all")))
             rest = [f"@{file.name}"]
             seen["numbers of a file"] += 1
         line = word + rng.choice((" ", "\t", "  ")) + rng.choice((" ", ",", " , ", "\t")).join(rest)
@@ -67,6 +68,12 @@ def fault_of_text(file, pieces, rng, folder, seen, change):
     return None
 
 
+def is_told(line, refusal):
+    """With the numbers that it speaks of, which stand in the table of sets by a letter."""
+    numbers = r" \(in set \d [Nqgkbt] = \d+(, [Nqgkbt] = \d+)*\)"
+    return re.fullmatch(re.escape(f"refused with {refusal.number}: {refusal.wrong}") + f"({numbers})?", line)
+
+
 def fault_of_listing(pieces, rows):
     """Each row whole and in order, each refusal with its words, each place; None where all is there."""
     full = list(show.listing(pieces, full=True))
@@ -77,7 +84,7 @@ def fault_of_listing(pieces, rows):
     told = [line.strip() for line in full]
     for row in rows:
         refusal = REFUSALS.get(row.number)
-        if refusal and not (any(line.startswith(f"refused with {row.number}: {refusal.wrong}") for line in told) and f"to do: {refusal.remedy}" in told):
+        if refusal and not (any(is_told(line, refusal) for line in told) and f"to do: {refusal.remedy}" in told):
             return f"its listing does not tell what {row.number} means"
     longest = max(map(len, show.listing(pieces)))
     return f"a line of {longest} characters in its listing" if longest > 320 else None
@@ -137,7 +144,7 @@ MISTAKES = (
     ("set", 1, f"found 0 numbers: expected 1 number {DAMAGED}"),
     ("set 256", 1, "found '256' as number 1: expected a whole number from 0 to 255"),
     ("points 1 65536", 1, "found '65536' as number 2: expected a whole number from 0 to 65535"),
-    ("key 0 128", 1, "found '128' as number 2: expected a whole number from -128 to 127"),
+    ("key 0 128", 1, "found '128' as number 2: expected a whole number from -128 to 127; the player takes -1, 0 and 1"),
     ("mask -32769", 1, "found '-32769' as number 1: expected a whole number from -32768 to 32767"),
     ("mask 1.5", 1, "found '1.5' as number 1: expected a whole number from -32768 to 32767"),
     ("mask 1_000", 1, "found '1_000' as number 1: expected a whole number from -32768 to 32767"),
@@ -149,11 +156,14 @@ MISTAKES = (
     ("mask @none.txt", 1, "found @none.txt, which cannot be read (No such file or directory): expected a file of numbers apart by white space or commas, "
                           "its path from the folder of this text"),
     ("mask 1 @wrong.txt", 1, "found 'x' as number 4 (of wrong.txt, line 2): expected a whole number from -32768 to 32767"),
-    ("mask @bytes.txt", 1, "found @bytes.txt, which cannot be read (it is no text): expected a file of numbers apart by white space or commas, "
+    ("set 0\nmask @three.txt", 2, f"found 3 numbers with @three.txt: expected 5 coefficients in set 0 {DAMAGED}"),
+    ("set 0; points 1 4", 1, "found '0;' as number 1: expected a whole number from 0 to 255"),
+    ("set 0\nmask 1 - 1 2 3 4", 2, "found '-' as number 2: expected a whole number from -32768 to 32767"),
+    ("mask @bytes.txt", 1, "found @bytes.txt, which cannot be read (it is not UTF-8): expected a file of numbers apart by white space or commas, "
                            "its path from the folder of this text"),
     ("mas 1", 1, f"found the word 'mas': expected 'mask', or another of {WORDS}"),
     ("01 00", 1, f"found the word '01': expected one of {WORDS}"),
-    ("Set 0", 1, f"found the word 'Set': expected 'set', or another of {WORDS}"),
+    ("SET 0", 1, f"found the word 'SET': expected 'set', or another of {WORDS}"),
     ("sign 1", 1, "found '1': expected nothing after this word"),
     ("end .", 1, "found '.': expected nothing after this word"),
     ('message "' + 65 * "a" + '"', 1, "found a text of 65 bytes: expected at most 64"),
@@ -165,7 +175,8 @@ MISTAKES = (
     ('message "a" b', 1, "found '\"a\" b': expected text between two quotes \", with \\\" for a quote and \\\\ for a backslash in it"),
     ('message "\\n"', 1, "found '\"\\\\n\"': expected text between two quotes \", with \\\" for a quote and \\\\ for a backslash in it"),
     ("check", 1, "found no signature: expected check last, or check and the signature in hex"),
-    ("check 0g", 1, "found '0g': expected hex digits"),
+    ("check 0g", 1, "found '0g': expected last, or hex digits"),
+    ("raw xy", 1, "found 'xy': expected hex digits"),
     ("check 012", 1, "found 3 hex digits: expected two for each byte"),
     ("set 0\ncheck 00", 2, f"found a signature of 1 bytes: expected 14 in set 0, or 15 with its set byte {DAMAGED}"),
     ("set 0\ncheck 01" + 14 * "00", 2, "found a signature of set 1: expected one of set 0, which is in force"),
@@ -174,10 +185,11 @@ MISTAKES = (
     ("set 0\nno-tag", 2, "found no-tag here: expected no-tag alone, before all else"),
     ("no-tag 00", 1, "found no-tag here: expected no-tag alone, before all else"),
     ("check last", 1, "found no sign before this line: expected check last behind a sign, or check and the signature in hex"),
-    (BEGUN + "sign\ncheck last", 6, f"found that the sign in line 5 is refused with 9 ({REFUSALS[9].wrong}): expected a sign that is accepted (give new masks)"),
+    (BEGUN + "sign\ncheck last", 6, f"found that the sign in line 5 is refused with 9 ({REFUSALS[9].wrong}): expected a sign that is accepted ({REFUSALS[9].remedy})"),
     ("set 0\nsign\nsign # again\ncheck last\nend", 4,
      f"found that the sign in line 3 is refused with 10 ({REFUSALS[10].wrong}): expected a sign that is accepted ({REFUSALS[10].remedy})"),
     ("sign\ncheck last", 2, f"found that the sign in line 1 is refused with 3 ({REFUSALS[3].wrong}): expected a sign that is accepted (choose a set first)"),
+    (BEGUN + "mask 0 0 0 0 0\nsign\nset 1\ncheck last", 8, "found that the sign in line 6 is in set 0: expected one in set 1, which is in force"),
     ("raw 09\nsign\ncheck last", 3, "found that the session ends before the sign in line 2, by refusal 14 (an unknown command): expected a sign that is played "
                                     f"({REFUSALS[14].remedy})"),
     ("no-tag\nsign\ncheck last", 3, "found that the session ends before the sign in line 2, by refusal 15 "
@@ -189,6 +201,7 @@ MISTAKES = (
 def mistakes_agree():
     with TemporaryDirectory() as folder:
         (Path(folder) / "wrong.txt").write_text("2 3\nx")
+        (Path(folder) / "three.txt").write_text("1 2 # two\n3 # and three")
         (Path(folder) / "bytes.txt").write_bytes(b"1 2 \xff")
         for text, line, told in MISTAKES:
             found = pack.pack(text, Path(folder))[1]
@@ -205,7 +218,7 @@ def mistakes_agree():
 
 # What the player refuses, or nobody would write, is packed all the same.
 PACKED = (
-    ("", ""), ("# nothing\n", ""), ("end", "00"), ("set 9\nset 255", "0109 01FF"), ("sign\nend\nend", "06 00 00"),
+    ("", ""), ("# nothing\n", ""), ("set 0\rend\r", "0100 00"), ("set 0\r\nend", "0100 00"), ("end", "00"), ("set 9\nset 255", "0109 01FF"), ("sign\nend\nend", "06 00 00"),
     ("points 1 2 3", "02 0001 0002 0003"), ("points", "02"), ("key -1 2 -128 127", "03 FF 02 80 7F"), ("set 0\npoints 4 4", "0100 02 0004 0004"),
     ("set 0\nmask 32767 -32768 -1 +0 007", "0100 04 7FFF 8000 FFFF 0000 0007"), ("evaluations 16777215 31", "08 FFFFFF 00001F"), ("check 00 01", "07 0001"),
     ("life 65535\nrule 0\nrule 255", "0A FFFF 0B00 0BFF"), ("raw 09 0C\nraw ff", "090C FF"),

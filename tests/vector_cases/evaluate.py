@@ -22,10 +22,10 @@ def polynomials(s):
     yield "key", "The key of sign's cases.", me.f
     yield "mask", "The mask of sign's case 'mask passes': at the points, and with q added to what is negative, its commitment.", me.y
     yield "x", "Coefficient 1 alone is not 0: g to the j at exponent j.", put([0] * s.N, 1, 1)
-    yield ("all -32768", "Equal coefficients evaluate to 0, by large negative sums: a remainder that keeps the sign shows, and a sum in 32 bits.",
-           [-32768] * s.N)
-    for what, sign in (("largest", 1), ("least", -1)):
-        yield (f"{what} sum", f"Coefficients -32768 and 32767 with the {what} sum that an exponent can have: a sum in 32 bits runs over.",
+    wide = ": a sum in 32 bits runs over" if s.q * s.N > 1 << 17 else ""  # times 32768
+    yield "all -32768", f"Equal coefficients evaluate to 0, by a large negative sum{wide}.", [-32768] * s.N
+    for what, sign, shows in (("largest", 1, ""), ("least", -1, "; a remainder that keeps the sign shows")):
+        yield (f"{what} sum", f"Coefficients -32768 and 32767 with the {what} sum that an exponent can have{wide}{shows}.",
                material.along(sign)(rng, s, -32768, 32767))
 
 

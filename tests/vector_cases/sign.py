@@ -84,8 +84,8 @@ def signed_masks(rng, s, rule):
 
 
 def passed_over_masks(rng, s, rule):
-    yield ("three passed over", "z has k-b+1 at index 0; then -(k-b)-1 at index N-1; then it is out of range where the mask is not; the fourth mask is "
-           "out of range where z goes just up to an end of it, and signs, though the fifth would too.", 259,
+    yield ("three passed over", "z has k-b+1 at index 0; then -(k-b)-1 at index N-1; then it is out of range where the mask is not; the fourth mask "
+           "is out of range itself, but z goes just up to an end of it, so that it signs, though the fifth would too.", 259,
            [*three_then_one(s, rule), small_mask(rng, s)])
     yield "seven passed over", "The last of eight masks signs.", 263, [*(failing(rng, s, rule) for _ in range(7)), small_mask(rng, s)]
 

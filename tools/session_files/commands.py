@@ -71,18 +71,21 @@ class Numbers(NamedTuple):
 
     def from_text(self, text, s):
         items = text.items()
+        for at, item in enumerate(items):
+            self.expect_number(at, item, NUMBER.fullmatch(item.text))
         count = self.count_in(s)
         if count is not None:
-            where = in_set(s) + " " if isinstance(self.count, str) else ""
-            expect(len(items) == count, f"{len(items)} numbers" if len(items) != 1 else "1 number", f"{count} {self.noun} {where}{DAMAGED}")
+            found = f"{len(items)} number{'' if len(items) == 1 else 's'}{text.files_named()}"
+            expect(len(items) == count, found, f"{count} {self.noun} {in_set(s) + ' ' if isinstance(self.count, str) else ''}{DAMAGED}")
         return b"".join(self.encoded(at, item) for at, item in enumerate(items))
+
+    def expect_number(self, at, item, holds):
+        low, high = self.ends()
+        expect(holds, f"{short(item.text)} as number {at + 1}{item.origin}", f"a whole number from {low} to {high}{self.hint}")
 
     def encoded(self, at, item):
         low, high = self.ends()
-        expected = f"a whole number from {low} to {high}{self.hint}"
-        found = f"{short(item.text)} as number {at + 1}{item.origin}"
-        expect(NUMBER.fullmatch(item.text), found, expected)
-        expect(low <= int(item.text) <= high, found, expected)
+        self.expect_number(at, item, low <= int(item.text) <= high)
         return int(item.text).to_bytes(self.width, "big", signed=self.signed)
 
     def to_text(self, data):
@@ -133,7 +136,7 @@ class Signature(NamedTuple):
         if text.rest == "last":
             return self.sized(text.last_signature(), s)
         expect(text.rest, "no signature", "check last, or check and the signature in hex")
-        return self.sized(text.hex(), s)
+        return self.sized(text.hex("last, or hex digits"), s)
 
     def sized(self, data, s):
         size = self.bytes_in(s)
@@ -158,6 +161,7 @@ class Command(NamedTuple):
     operand: object
     does: str
     adds: str = ""  # behind the number of its row, where it is accepted
+    needs: str = ""  # what must be held, or it is refused with 10
 
     @property
     def readme_row(self):
@@ -170,22 +174,23 @@ COMMANDS = (
             "chooses the set, and forgets all else held; the rule stays in force"),
     Command(0x02, "points", Numbers("exponents, strictly increasing in 1..N-1, two bytes each", "exponents", "t", 2, example="1 4 or @points.txt"),
             "holds the points, and forgets key and evaluations"),
-    Command(0x03, "key", Numbers("the key, N bytes: 00, 01, or FF for -1", "coefficients", "N", 1, signed=True, example="0 1 -1 -1 0 or @key.txt"),
+    Command(0x03, "key", Numbers("the key, N bytes: 00, 01, or FF for -1", "coefficients", "N", 1, signed=True, example="0 1 -1 -1 0 or @key.txt",
+                                 hint="; the player takes -1, 0 and 1"),
             "holds the key, which may give 65535 signatures, and works out its public evaluations",
-            "the t evaluations in signed form, from -(q-1)/2 to (q-1)/2"),
+            "the t evaluations in signed form, from -(q-1)/2 to (q-1)/2", needs="points"),
     Command(0x04, "mask", Numbers("a mask, N numbers in -k..k, two bytes each, two's complement", "coefficients", "N", 2, signed=True,
                                   example="1 -1 1 -6 2 or @mask.txt"),
             "holds the mask behind the others, at most eight"),
     Command(0x05, "message", Message(), "holds it"),
     Command(0x06, "sign", Nothing(),
             "signs with the first mask held that passes; drops the masks up to and with it, and takes one off the signatures left to the key",
-            "the number passed over, and the signature in upper-case hex"),
-    Command(0x07, "check", Signature(), "checks it", "1 for yes, 0 for no"),
+            "the number passed over, and the signature in upper-case hex", needs="points, a key and a message"),
+    Command(0x07, "check", Signature(), "checks it", "1 for yes, 0 for no", needs="points, evaluations (of `key` or `evaluations`) and a message"),
     Command(0x08, "evaluations", Numbers("public evaluations in 0..q-1, three bytes each", "evaluations", "t", 3, example="21 4 or @evaluations.txt",
                                          hint=" (add q to one that a row prints with a minus sign)"),
-            "holds them, and forgets the key"),
+            "holds them, and forgets the key", needs="points"),
     Command(0x0A, "life", Numbers("a number, 0 to 65535", "number", 1, 2, example="3"),
-            "sets how many signatures the key held may still give, whatever it was"),
+            "sets how many signatures the key held may still give, whatever it was", needs="a key"),
     Command(0x0B, "rule", Numbers("the rule of hashing, 1 or 2", "number", 1, 1, example="2"), "puts it in force; all that is held stays"),
 )
 

@@ -41,18 +41,23 @@ class Text:
         return found
 
     def items_of_file(self, name):
+        """As on a line, with comments."""
         try:
-            lines = (self.folder / name).read_text(encoding="utf-8-sig").splitlines()
+            lines = lines_of((self.folder / name).read_text(encoding="utf-8-sig"))
         except (OSError, UnicodeDecodeError) as error:
-            reason = getattr(error, "strerror", None) or "it is no text"
+            reason = getattr(error, "strerror", None) or "it is not UTF-8"
             raise Mistake(f"found @{name}, which cannot be read ({reason}): expected a file of numbers apart by white space or commas, "
                           "its path from the folder of this text")
-        return [Item(text, f" (of {name}, line {at})") for at, line in enumerate(lines, 1) for text in filter(None, SEPARATORS.split(line))]
+        return [Item(text, f" (of {name}, line {at})") for at, line in enumerate(lines, 1) for text in filter(None, SEPARATORS.split(without_comment(line)))]
 
-    def hex(self):
+    def files_named(self):
+        names = [text for text in SEPARATORS.split(self.rest) if text.startswith("@")]
+        return f" with {', '.join(names)}" if names else ""
+
+    def hex(self, expected="hex digits"):
         items = self.items()
         for item in items:
-            expect(re.fullmatch("[0-9A-Fa-f]+", item.text), short(item.text) + item.origin, "hex digits")
+            expect(re.fullmatch("[0-9A-Fa-f]+", item.text), short(item.text) + item.origin, expected)
         digits = "".join(item.text for item in items)
         expect(len(digits) % 2 == 0, f"{len(digits)} hex digits", "two for each byte")
         return bytes.fromhex(digits)
@@ -62,6 +67,10 @@ class Text:
         match = re.fullmatch(r'"((?:[^"\\]|\\["\\])*)"', self.rest)
         expect(match, short(self.rest), 'text between two quotes ", with \\" for a quote and \\\\ for a backslash in it')
         return re.sub(r'\\(["\\])', r"\1", match.group(1))
+
+
+def lines_of(text):
+    return re.split("\r\n|\r|\n", text)
 
 
 def without_comment(line):
@@ -74,7 +83,7 @@ class Packer:
         self.folder = folder
         self.file, self.set = bytearray(TAG), None
         self.words = 0  # packed so far
-        self.signing = None  # line and place of the last sign
+        self.signing = None  # line and place of the last sign, and the set in force
         self.mistakes = []
 
     def add(self, number, line):
@@ -99,14 +108,16 @@ class Packer:
         if command is SET and operand[0] < len(SETS):
             self.set = SETS[operand[0]]
         if command is SIGN:
-            self.signing = number, len(self.file)
+            self.signing = number, len(self.file), self.set
         return bytes([command.byte]) + operand
 
     def last_signature(self):
         """The signature that the player's row of the last sign has."""
         expect(not self.mistakes, "a mistake above", "it mended first: nothing can be played till then")
         expect(self.signing, "no sign before this line", "check last behind a sign, or check and the signature in hex")
-        line, place = self.signing
+        line, place, of_set = self.signing
+        expect(of_set in (None, self.set), f"that the sign in line {line} is in set {of_set and of_set.number}",
+               f"one in set {self.set and self.set.number}, which is in force")
         pieces = [piece for piece in played.played_pieces(bytes(self.file)) if piece.row]
         made = [piece.row for piece in pieces if piece.place == place and piece.row.byte == SIGN.byte]
         if made and made[0].number == 0:
@@ -128,14 +139,14 @@ def no_signature(line, place, made, last):
 
 
 def expected_words(word):
-    near = difflib.get_close_matches(word, [*BY_WORD, RAW, NO_TAG], 1)
+    near = difflib.get_close_matches(word.lower(), [*BY_WORD, RAW, NO_TAG], 1)
     return (f"'{near[0]}', or another of " if near else "one of ") + ", ".join([*BY_WORD, RAW, NO_TAG])
 
 
 def pack(text, folder=Path(".")):
     """The session file of a text, and the mistakes in it as (line, what) each; where there are any, the file is not whole."""
     packer = Packer(folder)
-    for number, line in enumerate(text.split("\n"), 1):
+    for number, line in enumerate(lines_of(text), 1):
         try:
             packer.add(number, line)
         except Mistake as mistake:

@@ -43,8 +43,10 @@ def row_told(row):
 
 
 def rows_told(rows):
-    more = len(rows) - ROWS_TOLD
-    return "; ".join([row_told(row) for row in rows[:ROWS_TOLD]] + ([f"and {more} more"] if more > 0 else []))
+    """The first ones each, and how the others judged."""
+    told, others = [row_told(row) for row in rows[:ROWS_TOLD]], rows[ROWS_TOLD:]
+    yes = sum(row.fields == ["1"] for row in others)
+    return "; ".join(told + ([f"and {len(others)} more, {yes} of them yes"] if others else []))
 
 
 def numbers(data, signed):

@@ -21,7 +21,7 @@ class Refusal(NamedTuple):
     def readme_row(self):
         wrong, remedy = self.wrong, self.remedy
         if self.for_c:
-            wrong, remedy = f"{wrong}; in the library, {self.for_c[0]}", f"{remedy}; {self.for_c[1]}"
+            wrong, remedy = f"{wrong}; in the library, {self.for_c[0]}", "; ".join(dict.fromkeys((remedy, self.for_c[1])))
         return f"| {self.number} | {wrong}{' (library only)' if self.by == 'library' else ''} | {remedy} |"
 
 
@@ -33,11 +33,12 @@ REFUSALS = {refusal.number: refusal for refusal in (
             "choose a set of the table, and check a signature with a public key of its own set"),
     Refusal(3, "02 to 08 or 0A before an accepted 01, `set`", "choose a set first", ends=True, by="session"),
     Refusal(4, "the exponents are out of 1..N-1, or not strictly increasing", "sort the points, each once"),
-    Refusal(5, "a key value is not -1, 0 or 1", "write -1 as FF in a key's bytes, and 0 and 1 as 00 and 01"),
+    Refusal(5, "a key value is not -1, 0 or 1", "use these alone; in bytes -1 is FF, 0 is 00 and 1 is 01"),
     Refusal(6, "a mask coefficient is outside -k..k", "draw the mask within k"),
     Refusal(7, "a public evaluation is not below q", "reduce it to 0..q-1: add q to a negative one"),
-    Refusal(8, "eight masks are held", "sign with 06 before the next 04", by="session"),
-    Refusal(9, "no mask is held or given, or none passes; a session drops those that it held", "give new masks"),
+    Refusal(8, "eight masks are held", "sign with 06, `sign`, before the next 04, `mask`", by="session"),
+    Refusal(9, "no mask is held, or none passes, and all are dropped", "give new masks: one in two to eight passes, by the set",
+            for_c=("no mask is given, or none passes", "give new masks: one in two to eight passes, by the set")),
     Refusal(10, "something needed is not held: points for 03, `key`, and 08, `evaluations`; points, key, message for 06, `sign`; points, evaluations, "
                 "message for 07, `check`; a key for 0A, `life`",
             "load it first; 01 forgets all, 02 the key and the evaluations, 08 the key", by="session"),

@@ -3,7 +3,7 @@ that pack takes."""
 
 import re
 
-from .commands import BY_BYTE, TAG, spaced_hex
+from .commands import BY_BYTE, BY_WORD, TAG, spaced_hex
 from .pack import NO_TAG, RAW
 from .refusals import REFUSALS
 
@@ -70,7 +70,7 @@ def remarks(piece):
     elif row.number:
         refusal = REFUSALS[row.number]
         yield f"refused with {row.number}: {refusal.wrong}{numbers_named(refusal, piece.set)}"
-        yield from cut_operand(piece)
+        yield from in_particular(piece)
         yield f"to do: {refusal.remedy}"
         if refusal.ends:
             yield "the session ends here"
@@ -80,16 +80,20 @@ def remarks(piece):
 
 def numbers_named(refusal, s):
     """The numbers of the set in force that a refusal speaks of."""
-    letters = [letter for letter in s._fields if re.search(rf"\b{letter}\b", f"{refusal.wrong} {refusal.remedy}")] if s else []
+    letters = [letter for letter in s._fields[1:] if re.search(rf"\b{letter}\b", f"{refusal.wrong} {refusal.remedy}")] if s else []
     return f" (in set {s.number} {', '.join(f'{letter} = {getattr(s, letter)}' for letter in letters)})" if letters else ""
 
 
-def cut_operand(piece):
-    """How many bytes an operand lacks, where the file ends inside it."""
-    command = BY_BYTE.get(piece.data[0]) if piece.row.number == 13 and piece.data else None
-    if command:
+def in_particular(piece):
+    """What of a refusal the command and the file tell: what it needs, how many bytes its operand lacks, or that the file is a text."""
+    number, command = piece.row.number, BY_BYTE.get(piece.data[0]) if piece.data else None
+    if number == 10:
+        yield f"`{command.word}` needs {command.needs}"
+    if number == 13 and command:
         wanted, where = command.operand.bytes_in(piece.set), f" in set {piece.set.number}" if piece.set else ""
-        yield f"the operand of {piece.data[0]:02X}, `{command.word}`, has {wanted} bytes{where}, and {len(piece.data) - 1} are left"
+        yield f"the operand of {command.byte:02X}, `{command.word}`, has {wanted} bytes{where}, and {len(piece.data) - 1} are left"
+    if number == 15 and piece.data.split()[:1] and piece.data.split()[0].decode("latin-1") in (*BY_WORD, RAW, NO_TAG, "#"):
+        yield "this looks like a text: bin/session pack makes a session file of it"
 
 
 def listing(pieces, full=False):
