@@ -218,9 +218,11 @@ def mistakes_agree():
 
 # What the player refuses, or nobody would write, is packed all the same.
 PACKED = (
-    ("", ""), ("# nothing\n", ""), ("set 0\rend\r", "0100 00"), ("set 0\r\nend", "0100 00"), ("end", "00"), ("set 9\nset 255", "0109 01FF"), ("sign\nend\nend", "06 00 00"),
+    ("", ""), ("# nothing\n", ""), ("set 0\rend\r", "0100 00"), ("set 0\r\nend", "0100 00"),
+    ("end", "00"), ("set 9\nset 255", "0109 01FF"), ("sign\nend\nend", "06 00 00"),
     ("points 1 2 3", "02 0001 0002 0003"), ("points", "02"), ("key -1 2 -128 127", "03 FF 02 80 7F"), ("set 0\npoints 4 4", "0100 02 0004 0004"),
-    ("set 0\nmask 32767 -32768 -1 +0 007", "0100 04 7FFF 8000 FFFF 0000 0007"), ("evaluations 16777215 31", "08 FFFFFF 00001F"), ("check 00 01", "07 0001"),
+    ("set 0\nmask 32767 -32768 -1 +0 007", "0100 04 7FFF 8000 FFFF 0000 0007"), ("evaluations 16777215 31", "08 FFFFFF 00001F"),
+    ("check 00 01", "07 0001"),
     ("life 65535\nrule 0\nrule 255", "0A FFFF 0B00 0BFF"), ("raw 09 0C\nraw ff", "090C FF"),
     ("set 0\ncheck 000180020000FFFF000200000002", "0100 07 000180020000FFFF000200000002"),
     ("set 0\ncheck 00000180020000FFFF000200000002", "0100 07 000180020000FFFF000200000002"),

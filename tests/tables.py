@@ -49,6 +49,15 @@ def reference_differences():
         yield "the refusals, or those that end a session, are not those of the reference"
 
 
+def needs_differences():
+    """Which commands need nothing, and which more than a set, by what the reference does."""
+    if {command.byte for command in COMMANDS if not command.needs} != set(reference_session.NEED_NO_SET):
+        yield "other commands need no set in the reference"
+    refused = {int(row[:2], 16) for row in compare_sessions.REFUSED_ROWS if row.endswith(" 10")}
+    if {command.byte for command in COMMANDS if command.needs not in ("", "a set")} != refused:
+        yield f"the commands that need more than a set are {sorted(refused)}"
+
+
 def givers_differences():
     """Which numbers the library gives and which a session, by what the comparisons with the reference must see."""
     of_library = set().union(*compare_calls.REFUSALS.values())
@@ -62,7 +71,7 @@ def givers_differences():
 
 def run():
     """True when all agree."""
-    differences = [*readme_differences(), *reference_differences(), *givers_differences()]
+    differences = [*readme_differences(), *reference_differences(), *needs_differences(), *givers_differences()]
     for difference in differences:
         print(f"tables: DIFFERENCE: {difference}")
     print(f"tables: {len(COMMANDS)} commands, {len(SETS)} sets and {len(REFUSALS)} refusals of bin/session, README, the header and the reference"

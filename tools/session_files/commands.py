@@ -161,11 +161,12 @@ class Command(NamedTuple):
     operand: object
     does: str
     adds: str = ""  # behind the number of its row, where it is accepted
-    needs: str = ""  # what must be held, or it is refused with 10
+    needs: str = ""  # what must be held, or it is refused: without a set with 3, else with 10
 
     @property
     def readme_row(self):
-        return f"| {self.byte:02X} | `{self.word}` | {self.operand.operand} | {self.operand.size} | {self.does} | {self.adds} |".replace("|  |", "| |")
+        cells = f"{self.byte:02X}", f"`{self.word}`", self.operand.operand, self.operand.size, self.needs, self.does, self.adds
+        return "|" + "".join(f" {cell} |" if cell else " |" for cell in cells)
 
 
 COMMANDS = (
@@ -173,19 +174,19 @@ COMMANDS = (
     Command(0x01, "set", Numbers("the set, 0 to 4", "number", 1, 1, example="1"),
             "chooses the set, and forgets all else held; the rule stays in force"),
     Command(0x02, "points", Numbers("exponents, strictly increasing in 1..N-1, two bytes each", "exponents", "t", 2, example="1 4 or @points.txt"),
-            "holds the points, and forgets key and evaluations"),
+            "holds the points, and forgets key and evaluations", needs="a set"),
     Command(0x03, "key", Numbers("the key, N bytes: 00, 01, or FF for -1", "coefficients", "N", 1, signed=True, example="0 1 -1 -1 0 or @key.txt",
                                  hint="; the player takes -1, 0 and 1"),
             "holds the key, which may give 65535 signatures, and works out its public evaluations",
             "the t evaluations in signed form, from -(q-1)/2 to (q-1)/2", needs="points"),
     Command(0x04, "mask", Numbers("a mask, N numbers in -k..k, two bytes each, two's complement", "coefficients", "N", 2, signed=True,
                                   example="1 -1 1 -6 2 or @mask.txt"),
-            "holds the mask behind the others, at most eight"),
-    Command(0x05, "message", Message(), "holds it"),
+            "holds the mask behind the others, at most eight", needs="a set"),
+    Command(0x05, "message", Message(), "holds it", needs="a set"),
     Command(0x06, "sign", Nothing(),
             "signs with the first mask held that passes; drops the masks up to and with it, and takes one off the signatures left to the key",
             "the number passed over, and the signature in upper-case hex", needs="points, a key and a message"),
-    Command(0x07, "check", Signature(), "checks it", "1 for yes, 0 for no", needs="points, evaluations (of `key` or `evaluations`) and a message"),
+    Command(0x07, "check", Signature(), "checks it", "1 for yes, 0 for no", needs="points, evaluations (by 03 or 08) and a message"),
     Command(0x08, "evaluations", Numbers("public evaluations in 0..q-1, three bytes each", "evaluations", "t", 3, example="21 4 or @evaluations.txt",
                                          hint=" (add q to one that a row prints with a minus sign)"),
             "holds them, and forgets the key", needs="points"),

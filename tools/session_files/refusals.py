@@ -39,9 +39,7 @@ REFUSALS = {refusal.number: refusal for refusal in (
     Refusal(8, "eight masks are held", "sign with 06, `sign`, before the next 04, `mask`", by="session"),
     Refusal(9, "no mask is held, or none passes, and all are dropped", "give new masks: one in two to eight passes, by the set",
             for_c=("no mask is given, or none passes", "give new masks: one in two to eight passes, by the set")),
-    Refusal(10, "something needed is not held: points for 03, `key`, and 08, `evaluations`; points, key, message for 06, `sign`; points, evaluations, "
-                "message for 07, `check`; a key for 0A, `life`",
-            "load it first; 01 forgets all, 02 the key and the evaluations, 08 the key", by="session"),
+    Refusal(10, "something that the command needs is not held", "load it first; 01 forgets all, 02 the key and the evaluations, 08 the key", by="session"),
     Refusal(11, "the pool is spent before b indices are kept", "draw with a longer pool", by="library"),
     Refusal(12, "a challenge index is not below N, or not increasing", "the signature is damaged or not one of this set"),
     Refusal(13, "the file ends before 00, `end`, or inside an operand", "end the file with 00; count the operand's bytes for the set in force",
