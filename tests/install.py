@@ -48,7 +48,7 @@ def faults_of_marker(prefix, folder):
 
 
 def faults_of_player(prefix):
-    """Called with a file and with standard input, and wrongly; bin/play, also through a link, is the same."""
+    """Called with a file and with standard input; wrongly, from a PREFIX that was moved; bin/play, also through a link, is the same."""
     for session in sorted((EXAMPLES / "sessions").glob("*.session")):
         rows = session.with_suffix(".rows").read_bytes()
         for call in (f"'{session}'", f"< '{session}'"):
@@ -56,8 +56,8 @@ def faults_of_player(prefix):
             if printed != rows:
                 yield f"passign-play {call} gives other rows"
     (prefix / "link").symlink_to(REPOSITORY / "bin/play")
-    session = EXAMPLES / "sessions/set-0.session"
-    for player in (f"{prefix}/bin/passign-play", f"{prefix}/link"):
+    moved, session = prefix.rename(prefix.with_name("moved")), EXAMPLES / "sessions/set-0.session"
+    for player in (f"{moved}/bin/passign-play", f"{moved}/link"):
         for call, status, words in (("--help", 0, ""), (f"{session} {session}", 2, "usage"), ("-x", 2, "usage"), ("''", 2, "usage"),
                                     ("none", 2, "there is no such file"), ("/", 2, "it is a folder"), ("< /", 2, "it is a folder"), ("<&-", 2, "it is closed"),
                                     (f"{session} > /dev/full", 2, "cannot write the rows"), (f"{session} >&-", 2, "cannot write the rows"),

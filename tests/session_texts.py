@@ -159,7 +159,9 @@ MISTAKES = (
     ("set 0\nmask @three.txt", 2, f"found 3 numbers with @three.txt: expected 5 coefficients in set 0 {DAMAGED}"),
     ("set 0; points 1 4", 1, "found '0;' as number 1: expected a whole number from 0 to 255"),
     ("set 0\nmask 1 - 1 2 3 4", 2, "found '-' as number 2: expected a whole number from -32768 to 32767"),
-    ("mask @bytes.txt", 1, "found @bytes.txt, which cannot be read (it is not UTF-8): expected a file of numbers apart by white space or commas, "
+    ("mask @a\0b", 1, "found @a\0b, which cannot be read (its name or its content is not UTF-8 text): expected a file of numbers apart by white space or "
+                      "commas, its path from the folder of this text"),
+    ("mask @bytes.txt", 1, "found @bytes.txt, which cannot be read (its name or its content is not UTF-8 text): expected a file of numbers apart by white space or commas, "
                            "its path from the folder of this text"),
     ("mas 1", 1, f"found the word 'mas': expected 'mask', or another of {WORDS}"),
     ("01 00", 1, f"found the word '01': expected one of {WORDS}"),

@@ -44,8 +44,8 @@ class Text:
         """As on a line, with comments."""
         try:
             lines = lines_of((self.folder / name).read_text(encoding="utf-8-sig"))
-        except (OSError, UnicodeDecodeError) as error:
-            reason = getattr(error, "strerror", None) or "it is not UTF-8"
+        except (OSError, ValueError) as error:
+            reason = getattr(error, "strerror", None) or "its name or its content is not UTF-8 text"
             raise Mistake(f"found @{name}, which cannot be read ({reason}): expected a file of numbers apart by white space or commas, "
                           "its path from the folder of this text")
         return [Item(text, f" (of {name}, line {at})") for at, line in enumerate(lines, 1) for text in filter(None, SEPARATORS.split(without_comment(line)))]
