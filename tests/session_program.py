@@ -161,9 +161,12 @@ def faults_of_pictures(folder):
     plotted = called("plot", SESSIONS / "set-0.session", "-o", folder / "made/anew")
     if plotted[0] or not (folder / "made/anew/set-0-row-7.svg").exists():
         yield f"plot into a folder that is not there gives {plotted}"
-    subtitles = [(folder / name).read_text() for name in ("set-0-row-7.svg", "entries-row-8.svg")]
-    if "signed in row 7, 1 mask passed over; checked in row 8: yes" not in subtitles[0] or "refused with 12 in row 8" not in subtitles[1]:
-        yield "a picture does not tell which rows its signature is of"
+    for name, words in (("set-0-row-7.svg", "signed in row 7 under rule 1, 1 mask passed over; checked in row 8 under rule 1: yes"),
+                        ("rules-row-9.svg", "signed in row 9 under rule 2, 0 masks passed over; checked in row 10 under rule 2: yes; "
+                                            "checked in row 12 under rule 1: no; checked in row 21 under rule 2: yes"),
+                        ("entries-row-8.svg", "refused with 12 in row 8")):
+        if words not in (folder / name).read_text():
+            yield f"{name} does not tell '{words}'"
 
 
 # ── All ─────────────────────────────────────────────────────────────────────────────────────────

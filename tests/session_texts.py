@@ -133,6 +133,7 @@ def messages_agree(seed):
 # ── Mistakes ────────────────────────────────────────────────────────────────────────────────────
 
 DAMAGED = "(for a damaged session write the bytes with raw)"
+UNREADABLE = "which cannot be read ({}): expected a file of numbers apart by white space or commas, its path from the folder of this text"
 WORDS = "end, set, points, key, mask, message, sign, check, evaluations, life, rule, raw, no-tag"
 BEGUN = 'set 0\npoints 1 4\nkey 0 1 -1 -1 0\nmessage "Unit four, exercise 17"\n'
 
@@ -153,16 +154,13 @@ MISTAKES = (
     ("evaluations -10", 1, "found '-10' as number 1: expected a whole number from 0 to 16777215 (add q to one that a row prints with a minus sign)"),
     ("life -1", 1, "found '-1' as number 1: expected a whole number from 0 to 65535"),
     ("rule two", 1, "found 'two' as number 1: expected a whole number from 0 to 255"),
-    ("mask @none.txt", 1, "found @none.txt, which cannot be read (No such file or directory): expected a file of numbers apart by white space or commas, "
-                          "its path from the folder of this text"),
+    ("mask @none.txt", 1, "found @none.txt, " + UNREADABLE.format("No such file or directory")),
     ("mask 1 @wrong.txt", 1, "found 'x' as number 4 (of wrong.txt, line 2): expected a whole number from -32768 to 32767"),
     ("set 0\nmask @three.txt", 2, f"found 3 numbers with @three.txt: expected 5 coefficients in set 0 {DAMAGED}"),
     ("set 0; points 1 4", 1, "found '0;' as number 1: expected a whole number from 0 to 255"),
     ("set 0\nmask 1 - 1 2 3 4", 2, "found '-' as number 2: expected a whole number from -32768 to 32767"),
-    ("mask @a\0b", 1, "found @a\0b, which cannot be read (its name or its content is not UTF-8 text): expected a file of numbers apart by white space or "
-                      "commas, its path from the folder of this text"),
-    ("mask @bytes.txt", 1, "found @bytes.txt, which cannot be read (its name or its content is not UTF-8 text): expected a file of numbers apart by white space or commas, "
-                           "its path from the folder of this text"),
+    ("mask @a\0b", 1, "found @a\0b, " + UNREADABLE.format("its name or its content is not UTF-8 text")),
+    ("mask @bytes.txt", 1, "found @bytes.txt, " + UNREADABLE.format("its name or its content is not UTF-8 text")),
     ("mas 1", 1, f"found the word 'mas': expected 'mask', or another of {WORDS}"),
     ("01 00", 1, f"found the word '01': expected one of {WORDS}"),
     ("SET 0", 1, f"found the word 'SET': expected 'set', or another of {WORDS}"),

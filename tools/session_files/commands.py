@@ -197,4 +197,4 @@ COMMANDS = (
 
 BY_BYTE = {command.byte: command for command in COMMANDS}
 BY_WORD = {command.word: command for command in COMMANDS}
-SET, END, SIGN, CHECK = (BY_WORD[word] for word in ("set", "end", "sign", "check"))
+SET, END, SIGN, CHECK, RULE = (BY_WORD[word] for word in ("set", "end", "sign", "check", "rule"))

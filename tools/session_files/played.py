@@ -5,7 +5,7 @@ from functools import lru_cache
 from pathlib import Path
 from typing import NamedTuple
 
-from .commands import BY_BYTE, END, SET, TAG
+from .commands import BY_BYTE, END, RULE, SET, TAG
 from .mistakes import Mistake
 from .refusals import REFUSALS
 from .sets import SETS
@@ -29,6 +29,7 @@ class Piece(NamedTuple):
     data: bytes
     command: object = None
     set: object = None  # in force there
+    rule: int = 1  # of hashing, in force there
     row: object = None  # of a command that was played, or of bytes that end the session
 
     @property
@@ -71,13 +72,15 @@ def pieces(file, rows):
         yield Piece(0, file, row=rows[0])
         return
     yield Piece(0, file[:len(TAG)])
-    s, place = None, len(TAG)
+    s, rule, place = None, 1, len(TAG)
     for row in rows:
-        piece = piece_at(place, file, s, row)
+        piece = piece_at(place, file, s, row)._replace(rule=rule)
         yield piece
         place += len(piece.data)
         if row.number == 0 and piece.command is SET:
             s = SETS[piece.operand[0]]
+        if row.number == 0 and piece.command is RULE:
+            rule = piece.operand[0]
     if place < len(file):
         yield Piece(place, file[place:], set=s)
 
@@ -89,7 +92,7 @@ def piece_at(place, file, s, row):
     command = BY_BYTE.get(row.byte)
     if row.number and REFUSALS[row.number].ends and not (command is END and place < len(file)):
         return Piece(place, file[place:], set=s, row=row)
-    return Piece(place, file[place:place + 1 + command.operand.bytes_in(s)], command, s, row)
+    return Piece(place, file[place:place + 1 + command.operand.bytes_in(s)], command, s, row=row)
 
 
 def played_pieces(file):

@@ -12,7 +12,7 @@ ROWS_TOLD = 4
 class Signature(NamedTuple):
     set: object
     data: bytes  # without the set byte
-    rows: list  # of the commands that made or checked it
+    pieces: list  # the commands that made or checked it
 
 
 def signatures(pieces):
@@ -22,7 +22,7 @@ def signatures(pieces):
         data = signature_of(piece)
         if data is not None:
             key = piece.set.number, data
-            found.setdefault(key, Signature(piece.set, data, [])).rows.append(piece.row)
+            found.setdefault(key, Signature(piece.set, data, [])).pieces.append(piece)
     return list(found.values())
 
 
@@ -33,20 +33,24 @@ def signature_of(piece):
     return piece.operand if piece.command is CHECK else None
 
 
-def row_told(row):
+def told(piece):
+    row = piece.row
     if row.number:
         return f"refused with {row.number} in row {row.ordinal}"
-    if row.byte == SIGN.byte:
+    if piece.command is SIGN:
         passed = int(row.fields[0])
-        return f"signed in row {row.ordinal}, {passed} mask{'' if passed == 1 else 's'} passed over"
-    return f"checked in row {row.ordinal}: {'yes' if row.fields == ['1'] else 'no'}"
+        return f"signed in row {row.ordinal} under rule {piece.rule}, {passed} mask{'' if passed == 1 else 's'} passed over"
+    return f"checked in row {row.ordinal} under rule {piece.rule}: {'yes' if is_yes(piece) else 'no'}"
 
 
-def rows_told(rows):
+def is_yes(piece):
+    return piece.command is CHECK and piece.row.fields == ["1"]
+
+
+def all_told(pieces):
     """The first ones each, and how the others judged."""
-    told, others = [row_told(row) for row in rows[:ROWS_TOLD]], rows[ROWS_TOLD:]
-    yes = sum(row.fields == ["1"] for row in others)
-    return "; ".join(told + ([f"and {len(others)} more, {yes} of them yes"] if others else []))
+    first, others = [told(piece) for piece in pieces[:ROWS_TOLD]], pieces[ROWS_TOLD:]
+    return "; ".join(first + ([f"and {len(others)} more, {sum(map(is_yes, others))} of them yes"] if others else []))
 
 
 def numbers(data, signed):
@@ -55,8 +59,8 @@ def numbers(data, signed):
 
 def picture_of(name, signature):
     """The number of the row it is named after, and the SVG."""
-    s, ordinal = signature.set, signature.rows[0].ordinal
+    s, ordinal = signature.set, signature.pieces[0].row.ordinal
     entries, z = signature.data[:2 * s.b], signature.data[2 * s.b:]
     challenge = [(entry & 0x7FFF, -1 if entry & 0x8000 else 1) for entry in numbers(entries, signed=False)]
     title = f"{name}, row {ordinal}: a signature of set {s.number}"
-    return ordinal, signature_svg(title, rows_told(signature.rows), s.N, s.k - s.b, challenge, numbers(z, signed=True))
+    return ordinal, signature_svg(title, all_told(signature.pieces), s.N, s.k - s.b, challenge, numbers(z, signed=True))
