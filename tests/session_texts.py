@@ -240,6 +240,19 @@ def packed_agree():
     return True
 
 
+# Files that end otherwise than by a 00, and the text that show gives.
+SHOWN = ((b"", ["no-tag"]), (b"PSG1", []), (b"PSG1\0\1", ["end", "raw 01"]), (b"PSG1\1\0\3\1", ["set 0", "raw 0301"]), (b"PSG1\x09\0", ["raw 0900"]),
+         (b"PSG1\6\0", ["raw 0600"]), (b"PSG2\0", ["no-tag", "raw 5053473200"]))
+
+
+def shown_agree():
+    for file, lines in SHOWN:
+        if show.as_text(played.played_pieces(file)) != lines:
+            print(f"texts: DIFFERENCE: {file!r} has the text {show.as_text(played.played_pieces(file))}, not {lines}")
+            return False
+    return True
+
+
 def run(seed):
     """True when all agree."""
-    return packed_agree() and mistakes_agree() and messages_agree(seed) and files_agree(seed, list(sessions.names()))
+    return shown_agree() and packed_agree() and mistakes_agree() and messages_agree(seed) and files_agree(seed, list(sessions.names()))
