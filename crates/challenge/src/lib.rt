@@ -1,4 +1,6 @@
 // The hash of a commitment and a message, and the sparse challenge drawn from it: the commitment bytes, the pool of eight digests, and the drawer.
+#![tactic(auto)]
+
 ghost use Rattle.std.specs.Prelude.{◌≡◌, ◌+◌, ◌*◌, ◌/◌, ◌%◌, ◌<◌, ◌≤◌, length, take};
 ghost use mathlib.Core.List.{flatten};
 ghost use Rattle.parameters.specs.Limits.{max_t};

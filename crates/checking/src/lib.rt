@@ -1,4 +1,6 @@
 // Checking: the commitment is recovered from the signature and the public evaluations, and its challenge compared with the given one; then the entry.
+#![tactic(auto)]
+
 ghost use Rattle.std.specs.Prelude.{◌≡◌, true, ◌+◌, ◌*◌, ◌^◌, ◌<◌, ◌≤◌, T, pos, ◌-ℤ◌, length, take};
 ghost use Rattle.algebra.specs.Integer.{residue};
 ghost use Rattle.parameters.specs.Limits.{max_n};

@@ -1,4 +1,6 @@
 // The readers and writers of the three encodings as entries.
+#![tactic(auto)]
+
 ghost use Rattle.std.specs.Prelude.{◌≡◌, [], length};
 ghost use Rattle.parameters.specs.Sound.{Limited};
 ghost use Rattle.refusal.specs.Answer.{answer_of, stated, answer_states};

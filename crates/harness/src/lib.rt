@@ -1,4 +1,6 @@
 // Functions for tests/ and bench/ alone, to call from C. The kit's own entries for C are those of passign_c.
+#![tactic(auto)]
+
 mod plays;
 
 ghost use Rattle.std.specs.Prelude.{◌≡◌, true, ◌++◌, ◌≤◌, ◌<◌, ◌^◌, T, length};

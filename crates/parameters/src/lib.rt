@@ -1,4 +1,6 @@
 // The five parameter sets of document 01, the powers of each set's g, and the limits that arrays have room for.
+#![tactic(auto)]
+
 ghost use Rattle.std.specs.Prelude.{◌≡◌, true, ◌+◌, ◌≤◌, length};
 ghost use Rattle.std.proofs.Math.Seq.{paste};
 ghost use Rattle.parameters.specs.Sets.{is_set, set_of};
@@ -23,7 +25,7 @@ pub const MAX_FILE: usize = 65536;
 pub const MAX_MESSAGE: usize = 65535;
 
 // A parameter set: N coefficients modulo x^N - 1, evaluations modulo q at powers of g, masks within k, b challenge indices, t points.
-#[derive(Drop)]
+#[derive(Clone, Copy)]
 pub struct Params {
     pub n: usize,
     pub q: u32,

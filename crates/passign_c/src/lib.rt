@@ -1,4 +1,6 @@
 // The library for C: each function is one call of it, its answer as a number. include/passign.h declares them.
+#![tactic(auto)]
+
 ghost use Rattle.std.specs.Prelude.{◌≡◌};
 ghost use Rattle.refusal.specs.Answer.{number_of, signing_number, verdict_number};
 ghost use Rattle.checking.specs.Check.{check_answer};

@@ -1,12 +1,17 @@
 // Plays a session file from standard input to its end, and writes each row to standard output.
+#![tactic(auto)]
+
 ghost use Rattle.std.specs.Prelude.{◌≡◌};
 ghost use Rattle.session_rules.specs.Play.{is_row};
 ghost use Rattle.session.specs.Session.{play_answer_of};
 ghost use Rattle.session.specs.WholeFile.{PlayedWhole};
 
-use libc::{STDIN_FILENO, STDOUT_FILENO};
 use parameters::ROW_ROOM;
 use session::{PlayAnswer, Played, Session, open, play, row_size};
+
+const STDIN_FILENO: i32 = 0;
+
+const STDOUT_FILENO: i32 = 1;
 
 // Writes the row at the front of a row buffer, whole.
 fn print_row(rows: &[u8]) {

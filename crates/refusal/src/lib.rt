@@ -1,4 +1,6 @@
 // What the entries of the library answer: the refusal numbers by name, the chain of tests that gives one, and the answers.
+#![tactic(auto)]
+
 ghost use Rattle.std.specs.Prelude.{◌≡◌, not, cond};
 ghost use Rattle.parameters.specs.declared.Params.{Params};
 ghost use Rattle.refusal.specs.Answer.{in_set_of};

@@ -1,4 +1,6 @@
 // A session: opened, then played one command at a time. Its fields are private, so it comes only from opening and changes only by playing.
+#![tactic(auto)]
+
 ghost use Rattle.std.specs.Prelude.{◌≡◌, not, ◌&&◌, cond, ◌≤◌, ◌+◌, ◌<◌, eqb, length, get_or};
 ghost use Rattle.refusal.specs.Numbers.{bytes_after_end};
 ghost use Rattle.session_rules.specs.Held.{is_held};

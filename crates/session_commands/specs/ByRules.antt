@@ -3,7 +3,7 @@
 -- Assumes nothing.
 use Rattle.std.specs.Prelude.{◌≡◌, ℕ, ℤ, take}
 use mathlib.Core.List.{List, ◌∷◌, flatten}
-use Rattle.std.specs.Borrow.{Bor}
+use Rattle.std.specs.Borrow.{Bor, MutBor}
 use denote.Triple.Both.{Both}
 use Rattle.parameters.specs.declared.Params.{Params}
 use Rattle.encoding.specs.Encoding.{signature_size}
@@ -17,15 +17,21 @@ use Rattle.session_state.specs.declared.CommandResult.{CommandResult}
 use Rattle.session_state.specs.State.{masks_held, chosen_in, held_in, held_of}
 use Rattle.session_state.specs.Result.{result_in, result_of}
 
--- a slice that a function is lent, as its contract has it, and the list in it at entry and at exit; a list that it is not lent stays
+-- a slice that a function is lent to write or to read, as its contract has it, and the list in it at entry and at exit; a list that it is not lent stays
 abbrev pub Slice : Type 0 → Type 0
-Slice A = Both (Bor (List A)) (Bor (List A))
+Slice A = Both (MutBor (List A)) (MutBor (List A))
+
+abbrev pub SharedSlice : Type 0 → Type 0
+SharedSlice A = Both (Bor (List A)) (Bor (List A))
 
 abbrev pub Lists : Type 0 → Type 0
 Lists A = Both (List A) (List A)
 
 abbrev pub lent : {A : Type 0} → Slice A → Lists A
 lent x = record { entry = x.entry.now; exit = x.exit.now }
+
+abbrev pub shared : {A : Type 0} → SharedSlice A → Lists A
+shared x = record { entry = x.entry.now; exit = x.exit.now }
 
 abbrev pub kept : {A : Type 0} → List A → Lists A
 kept l = record { entry = l; exit = l }
@@ -65,20 +71,20 @@ module _ (p : Params) (flags : Flags) (op : List ℕ) (r : CommandResult) where
       (e : List ℕ) (m : List ℤ) (t s : List ℕ)
       → By (λ c h. rules.load_evaluations c h op) p flags r (kept e) (lent key) (lent evaluations) (kept m) (kept t) s
 
-  abbrev pub ByLoadKey : Slice ℕ → Slice ℕ → Slice ℕ → Type 0
+  abbrev pub ByLoadKey : SharedSlice ℕ → Slice ℕ → Slice ℕ → Type 0
   ByLoadKey exponents key evaluations =
-      (m : List ℤ) (t s : List ℕ) → By (λ c h. rules.load_key c h op) p flags r (lent exponents) (lent key) (lent evaluations) (kept m) (kept t) s
+      (m : List ℤ) (t s : List ℕ) → By (λ c h. rules.load_key c h op) p flags r (shared exponents) (lent key) (lent evaluations) (kept m) (kept t) s
 
-  abbrev pub ByCheck : Slice ℕ → Slice ℕ → Slice ℕ → Type 0
+  abbrev pub ByCheck : SharedSlice ℕ → SharedSlice ℕ → SharedSlice ℕ → Type 0
   ByCheck exponents evaluations message =
       (k : List ℕ) (m : List ℤ) (s : List ℕ)
-      → By (λ c h. rules.check c h op) p flags r (lent exponents) (kept k) (lent evaluations) (kept m) (lent message) s
+      → By (λ c h. rules.check c h op) p flags r (shared exponents) (kept k) (shared evaluations) (kept m) (shared message) s
 
   abbrev pub ByGrant : Type 0
   ByGrant = (e k v : List ℕ) (m : List ℤ) (t s : List ℕ) → By (λ c h. rules.grant c h op) p flags r (kept e) (kept k) (kept v) (kept m) (kept t) s
 
 -- the library's signing with what is held: its answer, and where it signs the bytes in front
-module _ (p : Params) (flags : Flags) (answer : Signing) (exponents key : Slice ℕ) (masks : Slice ℤ) (message signature : Slice ℕ) where
+module _ (p : Params) (flags : Flags) (answer : Signing) (exponents key : SharedSlice ℕ) (masks : SharedSlice ℤ) (message : SharedSlice ℕ) (signature : Slice ℕ) where
   abbrev pub call_held : {A : Type 0} → (ℕ → List ℕ → List ℕ → List ℤ → List ℕ → List ℕ → A) → A
   call_held f =
       f flags.rule (flags.set ∷ take p.n key.entry.now) (take p.t exponents.entry.now)
@@ -89,9 +95,9 @@ module _ (p : Params) (flags : Flags) (answer : Signing) (exponents key : Slice 
     pub writes : {i : ℕ} → answer ≡ signing.Signed i → take (signature_size p) signature.exit.now ≡ call_held sign_written
 
 -- 06 has no operand
-abbrev pub BySign : Params → Flags → CommandResult → Slice ℕ → Slice ℕ → Slice ℤ → Slice ℕ → Slice ℕ → Type 0
+abbrev pub BySign : Params → Flags → CommandResult → SharedSlice ℕ → SharedSlice ℕ → Slice ℤ → SharedSlice ℕ → Slice ℕ → Type 0
 BySign p flags r exponents key masks message signature =
-    (v : List ℕ) → By rules.sign p flags r (lent exponents) (lent key) (kept v) (lent masks) (lent message) signature.exit.now
+    (v : List ℕ) → By rules.sign p flags r (shared exponents) (shared key) (kept v) (lent masks) (shared message) signature.exit.now
 
 module _ (byte : ℕ) (op : List ℕ) (r : CommandResult) (exponents key evaluations : Slice ℕ) (masks : Slice ℤ) (message signature : Slice ℕ) where
   -- those that need a set, by the byte

@@ -1,4 +1,6 @@
 // The commands of a session file other than 00: each a function over flags, its operand and the arrays that it needs, and one dispatch by the byte.
+#![tactic(auto)]
+
 ghost use Rattle.std.specs.Prelude.{◌≡◌, true, false, ◌≤◌, ◌<◌, length};
 ghost use Rattle.parameters.specs.Sets.{set_of};
 ghost use Rattle.parameters.specs.Sound.{Limited};

@@ -260,6 +260,9 @@ module _ (m : Material) (a : Available) (h : Held) (w : KeptAll m a h) (op : Lis
     -- three things needed
     three : (x y z : Bool) → T (x && (y && z)) → T x × (T y × T z)
     three true true true t = (tt, (tt, tt))
+    three false y z t = elim t [ ]
+    three true false z t = elim t [ ]
+    three true true false t = elim t [ ]
 
     -- what a 06 needs is available where it is held
     can_sign_lem : for_signing h ≡ can_sign a

@@ -74,7 +74,7 @@ module _ (file : List ℕ) (C : Material → Available → Session → List Even
       play_by s file buffer
       (λ (o : Outcome). C m a s (event_of s file o ++ events_from o.session file buffers) (after o.session file buffers))
       (λ e. plays_by m a s w buffers) (λ e. plays_by m a s w buffers)
-      (λ e g. more m a s w g buffer _ _ (plays_by _ _ (step s file).session (kept_row m a s w file buffer) buffers))
+      (λ e g. more m a s w g buffer _ _ (plays_by (with_command m (row_event s file buffer)) (available_with m a (row_event s file buffer)) (step s file).session (kept_row m a s w file buffer) buffers))
 
 pub kept_after : (file : List ℕ) (buffers : List (List ℕ))
     → KeptAll (material_read (events file buffers)) (available_after no_material none_available (events file buffers)) (after opened file buffers).held

@@ -1,4 +1,6 @@
 // What a session holds: flags and numbers by value, and five lists in arrays beside them, which functions are lent as slices. Crate `session` hides both.
+#![tactic(auto)]
+
 ghost use Rattle.std.specs.Prelude.{◌≡◌, ◌≤◌, length};
 ghost use Rattle.session_state.specs.State.{at_most_eight, has_exponents, has_evaluations};
 
@@ -17,7 +19,7 @@ pub const FIRST_GRANT: u16 = 65535;
 
 // Whether the session has ended, its place in the file and its row count; the rule of hashing in force, the set byte, which things are held, how many masks,
 // and how many signatures are left to the key.
-#[derive(Drop)]
+#[derive(Clone, Copy)]
 pub struct Flags {
     pub ended: bool,
     pub place: usize,

@@ -1,9 +1,12 @@
 // Prints SHA-512 of FIPS 180-4's example messages, and of the byte `a` repeated, at lengths around the edges of the padding:
 // two lines for each message, its digest whole and in two parts. The stored output is that of Python's hashlib, not of this program.
+#![tactic(auto)]
+
 ghost use Rattle.std.specs.Prelude.{◌≡◌, ◌≤◌, length};
 
-use libc::STDOUT_FILENO;
 use sha512::{sha512, sha512_of_two};
+
+const STDOUT_FILENO: i32 = 1;
 
 // Prints a digest in hex, and a line feed.
 fn print_digest(digest: [u8; 64]) {

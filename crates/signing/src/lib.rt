@@ -1,4 +1,6 @@
 // Signing: the masks are offered in turn and the first that passes signs; then the entry with its refusals.
+#![tactic(auto)]
+
 ghost use Rattle.std.specs.Prelude.{◌≡◌, true, ◌∷◌, length};
 ghost use Rattle.challenge.specs.Draw.{draw_challenge};
 ghost use Rattle.parameters.specs.Ring.{Usable};

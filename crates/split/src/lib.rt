@@ -1,4 +1,6 @@
 // Evaluation in the order of a generator's powers, with the convolution split by roots of unity modulo q.
+#![tactic(auto)]
+
 mod challenge;
 mod correlation;
 mod evaluation;

@@ -1,4 +1,6 @@
 // The tables of fast evaluation, for each parameter set.
+#![tactic(auto)]
+
 ghost use Rattle.std.specs.Prelude.{◌≡◌, true, ◌-◌, ◌*◌, ◌<◌, ◌≤◌, length, take};
 ghost use Rattle.parameters.specs.Sets.{is_set, set_of};
 ghost use Rattle.split_tables.specs.Split.{shape_of, SplitTable};

@@ -1,4 +1,6 @@
 // Appenders of text: each stores from a place on in a lent buffer, and gives the place behind what it wrote.
+#![tactic(auto)]
+
 ghost use Rattle.std.specs.Prelude.{◌≡◌, [], ◌∷◌, ◌+◌, ◌*◌, ◌^◌, ◌<◌, ◌≤◌, nat_abs, length};
 ghost use Rattle.text.specs.Text.{digits, decimal, signed_decimal, hex_digit, hex, spaced, Appended};
 

@@ -1,9 +1,7 @@
 -- `ch` is Ch: each binary digit of x chooses that of y or that of z.
--- Assumes nothing.
 use Rattle.std.proofs.Common.{◌≡◌, ℕ, zero, suc, ◌-◌, ◌*◌, ◌/◌, ◌%◌, ◌^◌, ◌<◌, refl, pow-suc, arith, rules}
 use lib.Bits.{bit_and, bit_xor, and_shr, xor_shr, and_mod, xor_mod}
-use Rattle.sha512.proofs.compression.ch.Statement.{statement}
-use Rattle.sha512.proofs.compression.ch.Tie as tie
+use Rattle.sha512.proofs.compression.ch.Goals as goal
 
 either : (P : ℕ → Type 0) → P 0 → P 1 → (n : ℕ) → n < 2 → P n
 either P a b zero h = a
@@ -53,5 +51,5 @@ chosen (suc k) x y z a b =
       o,
     ) (same (x % 2) (y % 2) (z % 2) (omega arith) (omega arith) (omega arith)))
 
-pub ch_spec : {M : Type 1} → statement M
-ch_spec = tie.close (tie.spec (λ c. chosen 64 c.args.x c.args.y c.args.z (search rules) (search rules)))
+pub returns : goal.returns
+returns c = chosen 64 c.args.x c.args.y c.args.z (search rules) (search rules)

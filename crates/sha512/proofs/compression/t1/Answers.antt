@@ -1,11 +1,9 @@
 -- `t1` is T1, its sums modulo 2 ^ 64 in another order.
--- Assumes nothing.
 use Rattle.std.proofs.Common.{◌≡◌, ℕ, ◌+◌, ◌%◌, ◌^◌, get_or, sym, ap, ◌∙◌, arith, rules}
 use native.Mathlib.Nat.{mod-add-mod}
 use Rattle.sha512.specs.Word.{add, ch, Σ1}
 use Rattle.sha512.specs.Compression.{t1}
-use Rattle.sha512.proofs.compression.t1.Statement.{statement}
-use Rattle.sha512.proofs.compression.t1.Tie as tie
+use Rattle.sha512.proofs.compression.t1.Goals as goal
 
 -- only the whole sum is to be taken modulo 2 ^ 64
 sum_of_five : (a b c d e : ℕ) → add (add (add (add a b) c) d) e ≡ (a + b + c + d + e) % 2 ^ 64
@@ -17,14 +15,7 @@ in_order h k w f e =
     let q : h + k + w + f + e ≡ h + e + f + k + w = omega arith in
     sum_of_five h k w f e ∙ ap (λ (n : ℕ). n % 2 ^ 64) q ∙ sym (sum_of_five h e f k w)
 
-returns : tie.Need-returns
+pub returns : goal.returns
 unfolding t1 add
-returns c = let a = c.before.before.before.before.before.before.args in
-    cc (in_order (get_or a.t3 7 0) a.k a.w (ch (get_or a.t3 4 0) (get_or a.t3 5 0) (get_or a.t3 6 0)) (Σ1 (get_or a.t3 4 0)))
-
-pub t1_spec : {M : Type 1} → statement M
-unfolding t1 add
-t1_spec =
-    tie.close
-    (tie.spec (λ c. search rules) (λ c κs. search rules) (λ c κs. search rules) (λ c. search rules) (λ c. search rules) (λ c. search rules)
-    (λ c κs. search rules) (λ c κs. search rules) (λ c. search rules) (λ c κs. search rules) (λ c κs. search rules) returns)
+returns c = let a = c.args in
+    cc (in_order (get_or a.s 7 0) a.k a.w (ch (get_or a.s 4 0) (get_or a.s 5 0) (get_or a.s 6 0)) (Σ1 (get_or a.s 4 0)))
