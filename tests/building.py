@@ -1,5 +1,5 @@
-"""What the tests build: programs and shared objects of crates, and C programs over the static library. Each crate is built once a run: rt takes half a
-minute to see that it has nothing to prove."""
+"""What the tests build: programs and shared objects of crates, and C programs over the static library. Each crate is built once a run: rt takes some
+seconds to see that it has nothing to prove."""
 
 import subprocess
 import sys
@@ -7,13 +7,15 @@ from functools import lru_cache
 from pathlib import Path
 
 REPOSITORY = Path(__file__).resolve().parent.parent
+TARGET = REPOSITORY / "target"
 SANITIZERS = "-fsanitize=address,undefined"
 
 
-def run(*command):
+def run(*command, folder=REPOSITORY):
     """Ends the tests with what the command said where it fails."""
+    TARGET.mkdir(exist_ok=True)
     try:
-        done = subprocess.run(command, cwd=REPOSITORY, text=True, stdin=subprocess.DEVNULL, stdout=subprocess.PIPE, stderr=subprocess.STDOUT)
+        done = subprocess.run(command, cwd=folder, text=True, stdin=subprocess.DEVNULL, stdout=subprocess.PIPE, stderr=subprocess.STDOUT)
         said, failed = done.stdout, done.returncode != 0
     except OSError as error:
         said, failed = str(error), True
@@ -22,22 +24,27 @@ def run(*command):
                  "undefined-behaviour sanitizers, and as c++ one for C++")
 
 
+def made(crate, verb, name):
+    """What rt makes in a crate's out/. It proves the crates below and the crate first, unless that is done already."""
+    folder = REPOSITORY / "crates" / crate
+    run("rt", verb, folder=folder)
+    return folder / "out" / name
+
+
 @lru_cache(maxsize=None)
 def program(crate):
-    """The program of a crate; rt builds it anew where it is older than its sources."""
-    run("rt", "check", crate)
-    return REPOSITORY / "target/bin" / crate
+    """The program of a crate, which rt also runs when it has built it, here on no input."""
+    return made(crate, "run", crate)
 
 
 @lru_cache(maxsize=None)
 def archive(crate):
-    """A crate's static library. rt proves the crate first, unless that is done already."""
-    run("rt", "staticlib", crate)
-    return REPOSITORY / f"target/staticlib/lib{crate}.a"
+    """A crate's static library."""
+    return made(crate, "lib", f"lib{crate}.a")
 
 
 def shared_object(crate):
-    shared = REPOSITORY / f"target/lib{crate}.so"
+    shared = TARGET / f"lib{crate}.so"
     run("cc", "-shared", "-o", shared, "-Wl,--whole-archive", archive(crate), "-Wl,--no-whole-archive", "-Wl,-z,defs")  # defs: nothing left unlinked
     return shared
 

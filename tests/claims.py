@@ -8,7 +8,7 @@ CRATES = REPOSITORY / "crates"
 
 
 def sources():
-    return [path for kind in ("*.rt", "*.antt") for path in CRATES.rglob(kind)]
+    return [path for kind in ("*.rt", "*.antt") for path in CRATES.rglob(kind) if path.relative_to(CRATES).parts[1] != "out"]
 
 
 def words(files):

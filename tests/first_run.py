@@ -14,25 +14,26 @@ from tempfile import TemporaryDirectory
 
 from building import REPOSITORY
 
-CRATES = "# four of them are wanted\nalpha:\nbeta: alpha\ngamma: alpha beta\nother: alpha\nplay: gamma io libc\n"
+CRATES = "# four of them are wanted\nalpha:\nbeta: alpha\ngamma: alpha beta\nother: alpha\nplay: gamma\n"
 WANTED = ("alpha", "beta", "gamma", "play")
 MOST_SECONDS = 60
 TIME = r"\d+:\d\d"
 
-# As rt does, it proves in the background, where an interrupt of the terminal is not heard, and leaves its words in target/log. The player is there from the
-# start, as one of which the linker has written a part.
+# As rt does, it begins each crate with a line of it, proves in the background, where an interrupt of the terminal is not heard, and runs the player when it is
+# built. The player is there from the start, as one of which the linker has written a part.
 RT = """#!/bin/bash
-mkdir -p target/log target/bin
-echo half > target/bin/play
+[ "$*" = run ] && [ -e ../play ] || exit 9
+mkdir -p out
+echo half > out/play
 for crate in alpha beta gamma play; do
-    echo failed > target/log/$crate.res
+    echo "rt: chose --jobs 2 for $crate" >&2
     (echo $BASHPID >> "$STAND_IN/pids"; touch "$TMPDIR/of.$crate"; sleep "$DELAY"; echo $crate >> "$STAND_IN/proved") &
     wait
-    [ "$FAILING" != $crate ] || { echo "rt: $crate NOT PROVED"; exit 1; }
-    echo proved > target/log/$crate.res
+    [ "$FAILING" != $crate ] || { echo "fn $crate::f: no proof" >&2; exit 1; }
 done
-printf '#!/bin/sh\\ncat > /dev/null\\necho 0 00 15\\n' > target/bin/play
-chmod 755 target/bin/play
+printf '#!/bin/sh\\ncat > /dev/null\\necho 0 00 15\\n' > out/play
+chmod 755 out/play
+out/play
 """
 
 
@@ -41,7 +42,7 @@ class Copy:
 
     def __init__(self, folder, delay):
         self.root, self.stand_in, self.temporary = folder / "kit", folder / "stand-in", folder / "tmp"
-        for made in (self.root / "crates", self.stand_in, self.temporary):
+        for made in (self.root / "crates/play/src", self.stand_in, self.temporary):
             made.mkdir(parents=True)
         for part in ("bin", "tools"):
             shutil.copytree(REPOSITORY / part, self.root / part)
@@ -127,9 +128,9 @@ def fault_of_interrupt(folder, *command):
 def fault_of_failure(folder):
     copy = Copy(folder, 0)
     failing, ok = copy.run("bin/play", "a.session", FAILING="beta"), copy.run("bin/session", "show", "a.session")
-    (copy.root / "crates/new.rt").write_text("")
+    (copy.root / "crates/play/src/new.rt").write_text("")
     without = copy.run("bin/play", "a.session", PATH="/usr/bin:/bin")
-    if failing[0] != 2 or "the build of play failed" not in failing[2] or "rt: beta NOT PROVED" not in failing[2] or ok[0] != 0:
+    if failing[0] != 2 or "the build of play failed" not in failing[2] or "fn beta::f: no proof" not in failing[2] or ok[0] != 0:
         return f"a failed build gives {failing}, and the next one {ok}"
     return None if without[0] == 2 and "install the Rattle toolchain" in without[2] else f"without rt bin/play gives {without}"
 

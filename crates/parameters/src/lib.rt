@@ -117,32 +117,17 @@ pub fn put(out: &mut [u32], at: usize, list: &[u32], n: usize)
     }
 }
 
-// Puts the powers of a set's g at the front of a slice. A constant is built where it is named, so each arm names its own; n is its length, and
-// the compiler, which is not told, copies memory and not number by number.
+// Puts the powers of a set's g at the front of a slice. Each arm lends its own constant, which is then read in place: bound to a name by `let`, it would be
+// built on the stack. n is its length, and the compiler, which is not told, copies memory and not number by number.
 pub fn put_powers(set: u8, n: usize, out: &mut [u32])
     requires { (is_set set ≡ true) × (n ≡ (set_of set).n) × (n ≤ length out.old) }
     ensures { Usable (set_of set) out.new }
 {
     match set {
-        0 => {
-            let table = powers::POWERS_0;
-            put(out, 0, &table, n);
-        }
-        1 => {
-            let table = powers::POWERS_1;
-            put(out, 0, &table, n);
-        }
-        2 => {
-            let table = powers::POWERS_2;
-            put(out, 0, &table, n);
-        }
-        3 => {
-            let table = powers::POWERS_3;
-            put(out, 0, &table, n);
-        }
-        _ => {
-            let table = powers::POWERS_4;
-            put(out, 0, &table, n);
-        }
+        0 => put(out, 0, &powers::POWERS_0, n),
+        1 => put(out, 0, &powers::POWERS_1, n),
+        2 => put(out, 0, &powers::POWERS_2, n),
+        3 => put(out, 0, &powers::POWERS_3, n),
+        _ => put(out, 0, &powers::POWERS_4, n),
     }
 }

@@ -59,26 +59,11 @@ fn put_split(set: u8, last: usize, out: &mut [u32])
     put_generator_powers(set, last, out);
     let rest = 2 * last;
     match set {
-        0 => {
-            let table = tables::SPLIT_0;
-            put(out, last, &table, rest);
-        }
-        1 => {
-            let table = tables::SPLIT_1;
-            put(out, last, &table, rest);
-        }
-        2 => {
-            let table = tables::SPLIT_2;
-            put(out, last, &table, rest);
-        }
-        3 => {
-            let table = tables::SPLIT_3;
-            put(out, last, &table, rest);
-        }
-        _ => {
-            let table = tables::SPLIT_4;
-            put(out, last, &table, rest);
-        }
+        0 => put(out, last, &tables::SPLIT_0, rest),
+        1 => put(out, last, &tables::SPLIT_1, rest),
+        2 => put(out, last, &tables::SPLIT_2, rest),
+        3 => put(out, last, &tables::SPLIT_3, rest),
+        _ => put(out, last, &tables::SPLIT_4, rest),
     }
 }
 

@@ -13,25 +13,10 @@ pub fn put_generator_powers(set: u8, last: usize, out: &mut [u32])
     ensures table { GeneratorTable (generator_of set) (set_of set).n (take ((set_of set).n - 1) out.new) }
 {
     match set {
-        0 => {
-            let table = powers::POWERS_0;
-            put(out, 0, &table, last);
-        }
-        1 => {
-            let table = powers::POWERS_1;
-            put(out, 0, &table, last);
-        }
-        2 => {
-            let table = powers::POWERS_2;
-            put(out, 0, &table, last);
-        }
-        3 => {
-            let table = powers::POWERS_3;
-            put(out, 0, &table, last);
-        }
-        _ => {
-            let table = powers::POWERS_4;
-            put(out, 0, &table, last);
-        }
+        0 => put(out, 0, &powers::POWERS_0, last),
+        1 => put(out, 0, &powers::POWERS_1, last),
+        2 => put(out, 0, &powers::POWERS_2, last),
+        3 => put(out, 0, &powers::POWERS_3, last),
+        _ => put(out, 0, &powers::POWERS_4, last),
     }
 }

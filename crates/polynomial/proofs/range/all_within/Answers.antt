@@ -1,0 +1,20 @@
+-- `all_within` meets its contract: after i turns the flag says whether the first i coefficients are in range.
+use Prim.Native.Nat.{◌-◌}
+use native.Mathlib.Omega.{arith}
+use lib.ListN.{length}
+use mir.Syntax.{w32}
+use borrow.Author.Rules.{rules}
+use Rattle.algebra.proofs.Signed.{read_same}
+use Rattle.polynomial.proofs.RangeLoops.{Tested, tested_none, tested_more, tested_all}
+use Rattle.polynomial.proofs.range.all_within.Goals as goal
+
+pub loop-i-preserved : goal.loop-i-preserved
+loop-i-preserved c = let l = c.loop-i in
+    let e = read_same w32 c.args.z.now l.i c.is_within-arg-1.given in
+    tested_more l.invariant (omega arith) c.is_within-all.ensures e
+
+pub loop-i-init : goal.loop-i-init
+loop-i-init c = tested_none
+
+pub returns : goal.returns
+returns c = tested_all c.loop-i.invariant (omega arith)

@@ -1,0 +1,12 @@
+-- `in_range16` meets its contract: none is outside exactly where all are in range.
+use mathlib.Core.Path.{ap, ◌∙◌}
+use Prim.Native.Nat.{ℕ}
+use lib.Dec.{eqb}
+use lib.ListN.{length}
+use borrow.Author.Rules.{rules}
+use Rattle.polynomial.proofs.FirstOutside.{first_outside-within}
+use Rattle.polynomial.proofs.range.in_range16.Goals as goal
+
+pub returns : goal.returns
+returns c = let a = c.args in
+    ap (λ (i : ℕ). eqb i (length a.values.now)) c.first_outside16.ensures ∙ first_outside-within a.bound a.values.now

@@ -1,0 +1,17 @@
+-- `put_hex` writes one byte a turn.
+use mathlib.Core.Path.{◌≡◌, refl}
+use Prim.Native.Nat.{◌+◌, ◌-◌, ◌*◌, ◌≤◌}
+use native.Mathlib.Omega.{arith}
+use borrow.Author.Rules.{rules}
+use lib.ListN.{length, take}
+use lib.Seq.{take_all}
+use Rattle.text.specs.Text.{hex, Appended}
+use Rattle.text.proofs.Text.{hex-append}
+use Rattle.text.proofs.Appending.{appended_none, appended_more}
+use Rattle.text.proofs.put_hex.Given as goal
+
+abbrev pub invariant-loop-i : goal.invariant-loop-i
+invariant-loop-i l = (l.i ≤ length l.bytes) × (l.next ≤ l.at + 2 * l.i) × (length l.out ≡ length l.initial.out) × Appended l.initial.out l.at (hex (take l.i l.bytes)) l.out l.next
+
+abbrev pub decreases-loop-i : goal.decreases-loop-i
+decreases-loop-i l = length l.bytes - l.i

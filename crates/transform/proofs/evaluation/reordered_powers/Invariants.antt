@@ -1,0 +1,18 @@
+-- `reordered_powers` meets its contract: one power a turn.
+use mathlib.Core.Path.{refl}
+use mathlib.Core.List.{map}
+use Prim.Native.Nat.{ℕ, ◌-◌}
+use native.Mathlib.Omega.{arith}
+use lib.ListN.{length, get_or, length-map}
+use borrow.Author.Rules.{rules}
+use Rattle.algebra.proofs.All.{below_at}
+use Rattle.algebra.proofs.Filling.{Filled, filled_none, filled_map, filled_front}
+use Rattle.parameters.specs.Limits.{max_n}
+use Rattle.transform.specs.Asks.{powers_in_order}
+use Rattle.transform.proofs.evaluation.reordered_powers.Given as goal
+
+abbrev pub invariant-loop-i : goal.invariant-loop-i
+invariant-loop-i l = Filled (map (λ (e : ℕ). get_or l.powers e 0) l.order) (length l.order) max_n l.out l.i
+
+abbrev pub decreases-loop-i : goal.decreases-loop-i
+decreases-loop-i l = length l.order - l.i
