@@ -1,4 +1,4 @@
-/* PASSign for C (C99 or newer) and C++: link target/staticlib/libpassign_c.a, which `rt staticlib passign_c` builds, or libpassign.a, where bin/install put
+/* PASSign for C (C99 or newer) and C++: link target/staticlib/libpassign_c.a, which `bin/build passign_c` builds, or libpassign.a, where bin/install put
    it. The archive is for x86-64.
 
    Every function takes any contents and any lengths. What is not allowed is refused with a number below 256 (PASSIGN_WRONG_LENGTH and those after it;

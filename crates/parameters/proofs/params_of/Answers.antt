@@ -1,6 +1,5 @@
 -- `params_of` meets its contract: the constant table is the document's, and behind it all is 0.
 use mathlib.Core.Path.{refl, sym}
-use borrow.Author.Rules.{rules}
 use Rattle.parameters.specs.Sets.{sets, set_of}
 use Rattle.parameters.proofs.Sound.{no_set}
 use Rattle.parameters.proofs.params_of.Goals as goal

@@ -1,5 +1,5 @@
 -- `after_blocks` takes one block a turn.
-use Rattle.std.proofs.Common.{◌≡◌, ◌+◌, ◌-◌, ◌*◌, ◌/◌, ◌≤◌, length, take, drop, refl, ◌∙◌, ap₂, add-one, arith, rules}
+use Rattle.std.proofs.Common.{◌≡◌, ◌+◌, ◌-◌, ◌*◌, ◌/◌, length, take, drop, refl, ◌∙◌, ap₂, add-one, arith, rules}
 use Rattle.sha512.specs.Compression.{compress}
 use Rattle.sha512.specs.Padding.{block_at}
 use Rattle.sha512.specs.Digest.{chain, hash_value}

@@ -1,8 +1,6 @@
 -- `after_blocks` takes one block a turn.
-use Rattle.std.proofs.Common.{◌≡◌, ◌+◌, ◌-◌, ◌*◌, ◌/◌, ◌≤◌, length, take, drop, refl, ◌∙◌, ap₂, add-one, arith, rules}
-use Rattle.sha512.specs.Compression.{compress}
-use Rattle.sha512.specs.Padding.{block_at}
-use Rattle.sha512.specs.Digest.{chain, hash_value}
+use Rattle.std.proofs.Common.{◌≡◌, ◌-◌, ◌/◌, ◌≤◌, length}
+use Rattle.sha512.specs.Digest.{chain}
 use Rattle.sha512.proofs.after_blocks.Given as goal
 
 abbrev pub invariant-loop-n : goal.invariant-loop-n

@@ -1,5 +1,5 @@
 -- `after_end` hashes the whole blocks, and then what they leave.
-use Rattle.std.proofs.Common.{◌*◌, ◌/◌, length, rules}
+use Rattle.std.proofs.Common.{◌*◌, ◌/◌, length}
 use Rattle.sha512.specs.Padding.{ending}
 use Rattle.algebra.proofs.List.{to_end}
 use Rattle.sha512.proofs.Chain.{hash_append}

@@ -1,5 +1,5 @@
 -- `digest` writes one word a turn.
-use Rattle.std.proofs.Common.{◌≡◌, ◌+◌, ◌-◌, ◌*◌, ◌≤◌, ◌++◌, length, get_or, take, sym, refl, ◌∙◌, add-one, arith, take_all, rules}
+use Rattle.std.proofs.Common.{◌≡◌, ◌+◌, ◌*◌, ◌++◌, get_or, sym, refl, ◌∙◌, add-one, arith, take_all, rules}
 use Rattle.sha512.specs.Bytes.{bytes8}
 use Rattle.sha512.specs.Digest.{bytes_of}
 use Rattle.sha512.proofs.Filling.{take-written}

@@ -1,8 +1,6 @@
 -- `digest` writes one word a turn.
-use Rattle.std.proofs.Common.{◌≡◌, ◌+◌, ◌-◌, ◌*◌, ◌≤◌, ◌++◌, length, get_or, take, sym, refl, ◌∙◌, add-one, arith, take_all, rules}
-use Rattle.sha512.specs.Bytes.{bytes8}
+use Rattle.std.proofs.Common.{◌≡◌, ◌-◌, ◌*◌, ◌≤◌, length, take}
 use Rattle.sha512.specs.Digest.{bytes_of}
-use Rattle.sha512.proofs.Filling.{take-written}
 use Rattle.sha512.proofs.digest.Given as goal
 
 abbrev pub invariant-loop-i : goal.invariant-loop-i

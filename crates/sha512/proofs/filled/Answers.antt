@@ -1,6 +1,5 @@
 -- `filled` writes the two slices into a block of zeros.
 use Rattle.sha512.proofs.Filling.{filled_is}
-use Rattle.std.proofs.Common.{rules}
 use Rattle.sha512.proofs.filled.Goals as goal
 
 pub returns : goal.returns

@@ -1,6 +1,6 @@
 -- `put_bytes` copies one byte a turn.
-use Rattle.std.proofs.Common.{◌≡◌, ◌-◌, ◌≤◌, length, refl, add-one, arith, length-set, rules}
-use lib.Seq.{paste, paste-zero, paste-suc, take-length}
+use Rattle.std.proofs.Common.{◌≡◌, length, refl, add-one, arith, length-set, rules}
+use lib.Seq.{paste-zero, paste-suc, take-length}
 use Rattle.sha512.proofs.put_bytes.Goals as goal
 
 pub loop-i-preserved : goal.loop-i-preserved

@@ -1,5 +1,5 @@
 -- `sha512_of_two` is the digest of the two slices, padded as one message.
-use Rattle.std.proofs.Common.{◌+◌, ◌*◌, ◌/◌, length, length-append, rules}
+use Rattle.std.proofs.Common.{◌+◌, ◌*◌, ◌/◌, length, length-append}
 use Rattle.sha512.specs.Constants.{initial_hash_value}
 use Rattle.sha512.specs.Padding.{ending, pad}
 use Rattle.sha512.specs.Digest.{sha512}

@@ -1,11 +1,9 @@
 -- `put_hex` writes one byte a turn.
-use mathlib.Core.Path.{◌≡◌, refl}
-use Prim.Native.Nat.{◌+◌, ◌-◌, ◌*◌, ◌≤◌}
+use mathlib.Core.Path.{refl}
 use native.Mathlib.Omega.{arith}
 use borrow.Author.Rules.{rules}
-use lib.ListN.{length, take}
 use lib.Seq.{take_all}
-use Rattle.text.specs.Text.{hex, Appended}
+use Rattle.text.specs.Text.{hex}
 use Rattle.text.proofs.Text.{hex-append}
 use Rattle.text.proofs.Appending.{appended_none, appended_more}
 use Rattle.text.proofs.put_hex.Goals as goal

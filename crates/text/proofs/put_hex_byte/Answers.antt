@@ -1,6 +1,5 @@
 -- `put_hex_byte` writes the high digit and then the low one.
 use native.Mathlib.Omega.{arith}
-use borrow.Author.Rules.{rules}
 use Rattle.text.specs.Text.{hex}
 use Rattle.text.proofs.Appending.{appended_then}
 use Rattle.text.proofs.put_hex_byte.Goals as goal

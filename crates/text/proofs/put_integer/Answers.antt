@@ -5,7 +5,6 @@ use native.Mathlib.Omega.{arith}
 use lib.IntN.{nat_abs}
 use lib.Signed.{mag}
 use mir.Facts.{to_z-of_z}
-use borrow.Author.Rules.{rules}
 use Rattle.algebra.proofs.Signed.{negative, natural}
 use Rattle.text.specs.Text.{minus_sign, digits, signed_decimal}
 use Rattle.text.proofs.Text.{integer_natural, integer_negative}

@@ -1,6 +1,5 @@
 -- `put_number` writes a space and the digits: ten are enough for a u32.
 use native.Mathlib.Omega.{arith}
-use borrow.Author.Rules.{rules}
 use Rattle.text.proofs.Text.{digits_enough}
 use Rattle.text.proofs.Appending.{appended_then}
 use Rattle.text.proofs.put_number.Goals as goal

@@ -1,15 +1,13 @@
 -- `evaluate_residues` meets its contract: the loop maps the evaluation's residue over the points, one a turn.
 use mathlib.Core.Path.{ap, ◌∙◌}
-use mathlib.Core.List.{map}
-use Prim.Native.Nat.{◌-◌}
 use native.Mathlib.Omega.{arith}
 use lib.IntN.{ℤ}
-use lib.ListN.{length, length-map}
+use lib.ListN.{length-map}
 use mir.Syntax.{w64}
 use borrow.Author.Rules.{rules}
 use Rattle.algebra.specs.Integer.{residue}
 use Rattle.algebra.proofs.All.{below_at}
-use Rattle.algebra.proofs.Filling.{Filled, filled_none, filled_map, filled_all}
+use Rattle.algebra.proofs.Filling.{filled_none, filled_map, filled_all}
 use Rattle.algebra.proofs.Signed.{reread}
 use Rattle.polynomial.specs.Evaluation.{evaluation_residue, evaluation_residues}
 use Rattle.polynomial.proofs.evaluation.evaluate_residues.Goals as goal

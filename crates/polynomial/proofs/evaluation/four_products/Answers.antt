@@ -6,7 +6,6 @@ use lib.IntN.{ℤ, ◌+ℤ◌, nat_abs}
 use lib.ListN.{length}
 use mir.Syntax.{w64}
 use mir.Val.{to_z, of_z}
-use borrow.Author.Rules.{rules}
 use Rattle.algebra.proofs.Signed.{reread}
 use Rattle.polynomial.specs.Asks.{product_at, four_products}
 use Rattle.polynomial.proofs.evaluation.four_products.Lts as lts

@@ -7,7 +7,6 @@ use lib.IntN.{ℤ, pos, negsuc, ◌*ℤ◌, nat_abs}
 use mir.Facts.{to_z_pos, to_z-of_z, sfits_widen}
 use mir.Syntax.{w16, w64}
 use mir.Val.{SFits, to_z, of_z}
-use borrow.Author.Rules.{rules}
 use Rattle.algebra.proofs.Absolute.{abs-mul}
 use Rattle.algebra.proofs.Signed.{fits_signed, widened}
 use Rattle.polynomial.proofs.evaluation.product.Lts as lts

@@ -3,7 +3,6 @@ use mathlib.Core.Path.{ap, ◌∙◌}
 use lib.IntN.{ℤ, pos, ◌*ℤ◌}
 use lib.ListN.{get_or}
 use mir.Syntax.{w16, w64}
-use borrow.Author.Rules.{rules}
 use Rattle.algebra.proofs.Signed.{reread, read_same}
 use Rattle.polynomial.specs.Asks.{product_at}
 use Rattle.polynomial.proofs.evaluation.product_at.Goals as goal

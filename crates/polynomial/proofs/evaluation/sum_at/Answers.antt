@@ -1,6 +1,6 @@
 -- `sum_at` meets its contract: the loop adds the products that are left, exactly.
 use mathlib.Core.Path.{refl, ap, ◌∙◌}
-use Prim.Native.Nat.{◌+◌, ◌-◌, ◌*◌, ◌^◌, ◌≤◌, ◌<◌}
+use Prim.Native.Nat.{◌+◌, ◌*◌, ◌^◌, ◌≤◌, ◌<◌}
 use native.Mathlib.Omega.{arith}
 use lib.IntN.{ℤ, ◌+ℤ◌, nat_abs}
 use lib.ListN.{length}
@@ -9,7 +9,6 @@ use mir.Syntax.{w64}
 use mir.Val.{to_z, of_z}
 use borrow.Author.Rules.{rules}
 use Rattle.algebra.proofs.Signed.{fits_signed, reread}
-use Rattle.polynomial.specs.Asks.{Summed}
 use Rattle.polynomial.proofs.Table.{place_once, place_next, sum_next, sum_read}
 use Rattle.polynomial.proofs.evaluation.sum_at.Lts as lts
 use Rattle.polynomial.proofs.evaluation.sum_at.Reads as reads

@@ -1,6 +1,6 @@
 -- `summed_by_four` meets its contract: each turn adds the next four products.
 use mathlib.Core.Path.{refl, ap, ◌∙◌}
-use Prim.Native.Nat.{◌+◌, ◌-◌, ◌*◌, ◌^◌, ◌≤◌}
+use Prim.Native.Nat.{◌+◌, ◌*◌, ◌^◌, ◌≤◌}
 use native.Mathlib.Omega.{arith}
 use lib.IntN.{ℤ, ◌+ℤ◌, nat_abs}
 use lib.ListN.{length}
@@ -8,7 +8,6 @@ use mir.Syntax.{w64}
 use mir.Val.{to_z, of_z}
 use borrow.Author.Rules.{rules}
 use Rattle.algebra.proofs.Signed.{reread}
-use Rattle.polynomial.specs.Asks.{Summed}
 use Rattle.polynomial.proofs.Table.{place_first, place_once, place_next, sum_four}
 use Rattle.polynomial.proofs.evaluation.summed_by_four.Lts as lts
 use Rattle.polynomial.proofs.evaluation.summed_by_four.Reads as reads

@@ -10,7 +10,6 @@ use Rattle.algebra.proofs.Absolute.{abs-add, abs-mul}
 use Rattle.algebra.proofs.Signed.{fits_signed, widened}
 use Rattle.polynomial.proofs.product.add_product.Lts as lts
 use Rattle.polynomial.proofs.product.add_product.Reads as reads
-use Rattle.polynomial.proofs.product.add_product.Tie as tie
 use Rattle.polynomial.proofs.product.add_product.Goals as goal
 
 abbrev At-Start : Type 0

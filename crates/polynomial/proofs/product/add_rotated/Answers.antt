@@ -7,7 +7,6 @@ use lib.IntN.{ℤ}
 use lib.ListN.{length, take, drop, length-drop, drop_of_length-le}
 use lib.Seq.{length-take-le, drop_at}
 use mir.Facts.{to_z-of_z}
-use borrow.Author.Rules.{rules}
 use borrow.Rule.Slice.PartMut.{put_mid, take_put}
 use Rattle.algebra.proofs.List.{to_end}
 use Rattle.polynomial.proofs.Bound.{within-take, within-drop}

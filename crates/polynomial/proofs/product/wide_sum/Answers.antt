@@ -9,7 +9,6 @@ use Rattle.algebra.proofs.Absolute.{abs-add}
 use Rattle.algebra.proofs.Signed.{fits_signed, widened}
 use Rattle.polynomial.proofs.product.wide_sum.Lts as lts
 use Rattle.polynomial.proofs.product.wide_sum.Reads as reads
-use Rattle.polynomial.proofs.product.wide_sum.Tie as tie
 use Rattle.polynomial.proofs.product.wide_sum.Goals as goal
 
 abbrev At-Start : Type 0

@@ -1,9 +1,6 @@
 -- `first_outside16` meets its contract: so far all are passed over.
-use Prim.Native.Nat.{◌-◌}
 use native.Mathlib.Omega.{arith}
-use lib.ListN.{length}
-use borrow.Author.Rules.{rules}
-use Rattle.polynomial.proofs.RangeLoops.{Passed, passed_none, passed_block, passed_rest, passed_room}
+use Rattle.polynomial.proofs.RangeLoops.{passed_none, passed_block, passed_rest, passed_room}
 use Rattle.polynomial.proofs.range.first_outside16.Goals as goal
 
 pub loop-i-preserved : goal.loop-i-preserved

@@ -3,7 +3,6 @@ use mathlib.Core.Path.{ap, ◌∙◌}
 use Prim.Native.Nat.{ℕ}
 use lib.Dec.{eqb}
 use lib.ListN.{length}
-use borrow.Author.Rules.{rules}
 use Rattle.polynomial.proofs.FirstOutside.{first_outside-within}
 use Rattle.polynomial.proofs.range.in_range16.Goals as goal
 

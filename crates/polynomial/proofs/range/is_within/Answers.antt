@@ -1,7 +1,6 @@
 -- `is_within` meets its contract: a is not below the lower end and not above the upper one.
 use native.Mathlib.Omega.{arith}
 use mir.Syntax.{w32}
-use borrow.Author.Rules.{rules}
 use Rattle.polynomial.proofs.Ends.{low_end_fits, between_ends}
 use Rattle.polynomial.proofs.range.is_within.Goals as goal
 

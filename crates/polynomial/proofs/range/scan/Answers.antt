@@ -1,11 +1,8 @@
 -- `scan` meets its contract: so far all are passed over, and the loop ends where a number is outside or none is left.
-use Prim.Native.Nat.{◌-◌}
 use native.Mathlib.Omega.{arith}
-use lib.ListN.{length}
 use mir.Syntax.{w32}
-use borrow.Author.Rules.{rules}
 use Rattle.algebra.proofs.Signed.{read_same}
-use Rattle.polynomial.proofs.RangeLoops.{Passed, passed_none, passed_one, passed_all, outside_here}
+use Rattle.polynomial.proofs.RangeLoops.{passed_none, passed_one, passed_all, outside_here}
 use Rattle.polynomial.proofs.range.scan.Goals as goal
 
 pub loop-i-preserved : goal.loop-i-preserved

@@ -6,7 +6,6 @@ use lib.IntN.{pos, ◌-ℤ◌, neg_ℤ, nat_abs}
 use mir.Facts.{to_z_pos, to_z-of_z}
 use mir.Syntax.{w64}
 use mir.Val.{to_z}
-use borrow.Author.Rules.{rules}
 use borrow.Author.Tests.{lt-ltb, le-ltb}
 use Rattle.algebra.proofs.Absolute.{abs-add, abs-neg}
 use Rattle.algebra.proofs.Signed.{fits_signed}

@@ -4,7 +4,6 @@ use native.Mathlib.Omega.{arith}
 use mir.Facts.{to_z-of_z}
 use mir.Syntax.{w32, w64}
 use mir.Val.{SFits, to_z, of_z}
-use borrow.Author.Rules.{rules}
 use Rattle.algebra.specs.Integer.{centre}
 use Rattle.algebra.proofs.Centred.{centre_small}
 use Rattle.algebra.proofs.Signed.{fits_signed, reread}

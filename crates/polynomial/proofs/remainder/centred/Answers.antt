@@ -5,7 +5,6 @@ use native.Mathlib.Omega.{arith}
 use lib.IntN.{ℤ}
 use mir.Facts.{to_z-of_z}
 use mir.Syntax.{w32}
-use borrow.Author.Rules.{rules}
 use Rattle.algebra.specs.Integer.{residue, centre}
 use Rattle.algebra.proofs.Congruence.{residue_below}
 use Rattle.algebra.proofs.Signed.{reread}

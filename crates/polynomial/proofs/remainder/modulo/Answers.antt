@@ -3,7 +3,6 @@ use mathlib.Core.Path.{ap}
 use Prim.Native.Nat.{ℕ, ◌%◌, ◌<◌}
 use native.Mathlib.Nat.{mod-lt}
 use native.Mathlib.Omega.{arith}
-use borrow.Author.Rules.{rules}
 use Rattle.polynomial.proofs.remainder.modulo.Lts as lts
 use Rattle.polynomial.proofs.remainder.modulo.Reads as reads
 use Rattle.polynomial.proofs.remainder.modulo.Tie as tie

@@ -6,7 +6,6 @@ use native.Mathlib.Omega.{arith}
 use lib.IntN.{ℤ, nat_abs}
 use lib.Signed.{mag}
 use mir.Facts.{to_z-of_z}
-use borrow.Author.Rules.{rules}
 use Rattle.algebra.specs.Integer.{residue}
 use Rattle.algebra.proofs.Signed.{negative, natural, complement_is, complement_read}
 use Rattle.polynomial.proofs.remainder.residue_of.Lts as lts

@@ -1,5 +1,5 @@
 -- `all_rounds` does four rounds a turn.
-use Rattle.std.proofs.Common.{◌≡◌, ℕ, zero, suc, ◌+◌, ◌-◌, ◌%◌, ◌≤◌, List, get_or, sym, refl, ap, ◌∙◌, add-zero, add-suc, arith, rules}
+use Rattle.std.proofs.Common.{◌≡◌, ℕ, zero, suc, ◌+◌, List, get_or, sym, refl, ap, ◌∙◌, add-zero, add-suc, arith, rules}
 use Rattle.sha512.specs.Constants.{round_constants}
 use Rattle.sha512.specs.Compression.{round, rounds, rounds_from}
 use Rattle.sha512.proofs.compression.all_rounds.Goals as goal

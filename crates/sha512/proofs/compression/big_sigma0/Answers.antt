@@ -1,6 +1,5 @@
 -- `big_sigma0` is Σ0: three rotations.
 use Rattle.sha512.specs.Word.{Σ0}
-use Rattle.std.proofs.Common.{rules}
 use Rattle.sha512.proofs.compression.big_sigma0.Goals as goal
 
 pub returns : goal.returns

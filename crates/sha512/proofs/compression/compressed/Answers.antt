@@ -1,6 +1,5 @@
 -- `compressed` is the rounds over the schedule, added to the hash value.
 use Rattle.sha512.specs.Compression.{compress}
-use Rattle.std.proofs.Common.{rules}
 use Rattle.sha512.proofs.compression.compressed.Goals as goal
 
 pub returns : goal.returns

@@ -1,5 +1,5 @@
 -- `expanded` adds four words to the schedule a turn.
-use Rattle.std.proofs.Common.{◌≡◌, ℕ, suc, ◌+◌, ◌-◌, ◌%◌, ◌<◌, ◌≤◌, List, length, take, set, sym, refl, ap, ◌∙◌, arith, length-set, take_all, get_or-take, rules}
+use Rattle.std.proofs.Common.{◌≡◌, ℕ, suc, ◌+◌, ◌-◌, ◌<◌, ◌≤◌, List, take, set, sym, refl, ap, ◌∙◌, arith, length-set, take_all, get_or-take, rules}
 use Rattle.sha512.specs.Compression.{next_word, expand}
 use Rattle.algebra.proofs.List.{grow_to}
 use Rattle.sha512.proofs.compression.expanded.Invariants.{Begun}

@@ -1,7 +1,6 @@
 -- `expanded` adds four words to the schedule a turn.
-use Rattle.std.proofs.Common.{◌≡◌, ℕ, suc, ◌+◌, ◌-◌, ◌%◌, ◌<◌, ◌≤◌, List, length, take, set, sym, refl, ap, ◌∙◌, arith, length-set, take_all, get_or-take, rules}
-use Rattle.sha512.specs.Compression.{next_word, expand}
-use Rattle.algebra.proofs.List.{grow_to}
+use Rattle.std.proofs.Common.{◌≡◌, ℕ, ◌-◌, ◌%◌, ◌≤◌, List, length, take}
+use Rattle.sha512.specs.Compression.{expand}
 use Rattle.sha512.proofs.compression.expanded.Given as goal
 
 -- a list whose first t words, of 80, are the schedule's

@@ -1,5 +1,5 @@
 -- `four_rounds` is four rounds, one after the other.
-use Rattle.std.proofs.Common.{◌≡◌, ℕ, suc, ◌+◌, List, get_or, sym, refl, ◌∙◌, add-zero, rules}
+use Rattle.std.proofs.Common.{◌≡◌, ℕ, suc, ◌+◌, List, get_or, sym, refl, ◌∙◌, add-zero}
 use Rattle.sha512.specs.Constants.{round_constants}
 use Rattle.sha512.specs.Compression.{round, rounds_from}
 use Rattle.sha512.proofs.compression.four_rounds.Goals as goal

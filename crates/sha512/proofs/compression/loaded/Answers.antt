@@ -1,5 +1,5 @@
 -- `loaded` loads one word of the block a turn.
-use Rattle.std.proofs.Common.{◌≡◌, ◌-◌, ◌≤◌, length, take, refl, add-one, arith, rules}
+use Rattle.std.proofs.Common.{◌≡◌, refl, add-one, arith, rules}
 use Rattle.sha512.specs.Compression.{words}
 use Rattle.algebra.proofs.List.{grow_to}
 use Rattle.sha512.proofs.compression.loaded.Goals as goal

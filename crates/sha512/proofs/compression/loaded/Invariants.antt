@@ -1,7 +1,6 @@
 -- `loaded` loads one word of the block a turn.
-use Rattle.std.proofs.Common.{◌≡◌, ◌-◌, ◌≤◌, length, take, refl, add-one, arith, rules}
+use Rattle.std.proofs.Common.{◌≡◌, ◌-◌, ◌≤◌, length, take}
 use Rattle.sha512.specs.Compression.{words}
-use Rattle.algebra.proofs.List.{grow_to}
 use Rattle.sha512.proofs.compression.loaded.Given as goal
 
 abbrev pub invariant-loop-t : goal.invariant-loop-t

@@ -1,7 +1,6 @@
 -- `next_word` is next_word: each sum is modulo 2 ^ 64.
 use Rattle.sha512.specs.Word.{add}
 use Rattle.sha512.specs.Compression.{next_word}
-use Rattle.std.proofs.Common.{rules}
 use Rattle.sha512.proofs.compression.next_word.Goals as goal
 
 pub returns : goal.returns

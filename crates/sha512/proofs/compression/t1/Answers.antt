@@ -1,5 +1,5 @@
 -- `t1` is T1, its sums modulo 2 ^ 64 in another order.
-use Rattle.std.proofs.Common.{◌≡◌, ℕ, ◌+◌, ◌%◌, ◌^◌, get_or, sym, ap, ◌∙◌, arith, rules}
+use Rattle.std.proofs.Common.{◌≡◌, ℕ, ◌+◌, ◌%◌, ◌^◌, get_or, sym, ap, ◌∙◌, arith}
 use native.Mathlib.Nat.{mod-add-mod}
 use Rattle.sha512.specs.Word.{add, ch, Σ1}
 use Rattle.sha512.specs.Compression.{t1}

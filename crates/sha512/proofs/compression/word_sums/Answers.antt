@@ -1,5 +1,5 @@
 -- `word_sums` adds one pair of words a turn.
-use Rattle.std.proofs.Common.{◌≡◌, ◌-◌, ◌≤◌, length, take, sym, refl, ◌∙◌, add-one, arith, take_all, rules}
+use Rattle.std.proofs.Common.{◌≡◌, sym, refl, ◌∙◌, add-one, arith, take_all, rules}
 use Rattle.sha512.specs.Word.{add}
 use Rattle.sha512.specs.Compression.{sums}
 use Rattle.algebra.proofs.List.{grow_to}

@@ -1,8 +1,6 @@
 -- `word_sums` adds one pair of words a turn.
-use Rattle.std.proofs.Common.{◌≡◌, ◌-◌, ◌≤◌, length, take, sym, refl, ◌∙◌, add-one, arith, take_all, rules}
-use Rattle.sha512.specs.Word.{add}
+use Rattle.std.proofs.Common.{◌≡◌, ◌-◌, ◌≤◌, length, take}
 use Rattle.sha512.specs.Compression.{sums}
-use Rattle.algebra.proofs.List.{grow_to}
 use Rattle.sha512.proofs.compression.word_sums.Given as goal
 
 abbrev pub invariant-loop-i : goal.invariant-loop-i

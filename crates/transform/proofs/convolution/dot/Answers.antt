@@ -1,10 +1,8 @@
 -- `dot` meets its contract: each turn adds one product, below 2 ^ 52.
 use mathlib.Core.Path.{◌≡◌, ap, ap₂, ◌∙◌}
-use Prim.Native.Nat.{◌-◌, ◌*◌, ◌^◌, ◌<◌, ◌≤◌}
+use Prim.Native.Nat.{◌*◌, ◌^◌, ◌<◌}
 use native.Mathlib.Omega.{arith}
-use lib.IntN.{pos}
 use lib.ListN.{length}
-use borrow.Author.Rules.{rules}
 use Rattle.algebra.proofs.All.{below_at}
 use Rattle.algebra.proofs.Remainder.{product_below}
 use Rattle.transform.specs.Asks.{dot_at}

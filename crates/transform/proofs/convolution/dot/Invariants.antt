@@ -1,14 +1,9 @@
 -- `dot` meets its contract: each turn adds one product, below 2 ^ 52.
-use mathlib.Core.Path.{◌≡◌, ap, ap₂, ◌∙◌}
-use Prim.Native.Nat.{◌-◌, ◌*◌, ◌^◌, ◌<◌, ◌≤◌}
-use native.Mathlib.Omega.{arith}
+use mathlib.Core.Path.{◌≡◌}
+use Prim.Native.Nat.{◌-◌, ◌*◌, ◌^◌, ◌≤◌}
 use lib.IntN.{pos}
 use lib.ListN.{length}
-use borrow.Author.Rules.{rules}
-use Rattle.algebra.proofs.All.{below_at}
-use Rattle.algebra.proofs.Remainder.{product_below}
 use Rattle.transform.specs.Asks.{dot_at}
-use Rattle.transform.proofs.ConvolutionLaws.{dot_none, dot_more}
 use Rattle.transform.proofs.convolution.dot.Given as goal
 
 abbrev pub invariant-loop-i : goal.invariant-loop-i

@@ -2,7 +2,6 @@
 use mathlib.Core.Path.{ap, ◌∙◌}
 use Prim.Native.Nat.{ℕ}
 use mir.Syntax.{w32}
-use borrow.Author.Rules.{rules}
 use Rattle.algebra.specs.Integer.{centre}
 use Rattle.algebra.proofs.Signed.{reread}
 use Rattle.transform.proofs.evaluation.centred_sum.Goals as goal

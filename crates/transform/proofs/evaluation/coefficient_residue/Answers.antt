@@ -3,7 +3,6 @@ use mathlib.Core.Path.{ap, ◌∙◌}
 use lib.IntN.{ℤ}
 use mir.Facts.{to_z-of_z, sfits_widen}
 use mir.Syntax.{w16, w64}
-use borrow.Author.Rules.{rules}
 use Rattle.algebra.specs.Integer.{residue}
 use Rattle.algebra.proofs.Signed.{widened}
 use Rattle.transform.proofs.evaluation.coefficient_residue.Goals as goal

@@ -1,13 +1,9 @@
 -- `place_values` meets its contract: one value a turn, each at a place of its own.
 use mathlib.Core.Path.{◌≡◌, refl, subst, sym, ◌∙◌}
-use mathlib.Core.List.{List}
-use Prim.Native.Nat.{ℕ, ◌+◌, ◌-◌, ◌≤◌}
+use Prim.Native.Nat.{ℕ}
 use native.Mathlib.Omega.{arith}
-use lib.IntN.{ℤ, pos}
-use lib.ListN.{length, get_or, length-set}
+use lib.ListN.{length, length-set}
 use mir.Syntax.{w32}
-use borrow.Author.Rules.{rules}
-use Rattle.algebra.specs.Integer.{centred}
 use Rattle.algebra.proofs.All.{below_at}
 use Rattle.algebra.proofs.Signed.{reread}
 use Rattle.transform.specs.Asks.{Places, Placed}

@@ -1,22 +1,13 @@
 -- `reordered_coefficients` meets its contract: one coefficient a turn.
-use mathlib.Core.Path.{ap, ◌∙◌}
 use mathlib.Core.List.{List, map}
-use Prim.Native.Nat.{ℕ, ◌-◌, ◌%◌, ◌<◌}
-use native.Mathlib.Nat.{mod-lt}
-use native.Mathlib.Omega.{arith}
+use Prim.Native.Nat.{ℕ, ◌-◌, ◌%◌}
 use lib.IntN.{ℤ}
 use lib.ListN.{length, get_or}
-use mir.Syntax.{w16}
-use borrow.Author.Rules.{rules}
 use Rattle.algebra.specs.Integer.{residue}
-use Rattle.algebra.proofs.All.{below_at}
-use Rattle.algebra.proofs.Filling.{Filled, filled_none, filled_front}
-use Rattle.algebra.proofs.Signed.{reread}
+use Rattle.algebra.proofs.Filling.{Filled}
 use Rattle.parameters.specs.Limits.{max_n}
 use Rattle.polynomial.specs.Polynomial.{coefficient}
 use Rattle.transform.specs.UpFrom.{up_from}
-use Rattle.transform.specs.Asks.{residues_backwards}
-use Rattle.transform.proofs.UpFrom.{filled_up, up_map-length}
 use Rattle.transform.proofs.evaluation.reordered_coefficients.Given as goal
 
 -- what is stored at i

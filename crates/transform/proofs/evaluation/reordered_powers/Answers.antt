@@ -1,12 +1,11 @@
 -- `reordered_powers` meets its contract: one power a turn.
 use mathlib.Core.Path.{refl}
-use mathlib.Core.List.{map}
-use Prim.Native.Nat.{ℕ, ◌-◌}
+use Prim.Native.Nat.{ℕ}
 use native.Mathlib.Omega.{arith}
-use lib.ListN.{length, get_or, length-map}
+use lib.ListN.{get_or, length-map}
 use borrow.Author.Rules.{rules}
 use Rattle.algebra.proofs.All.{below_at}
-use Rattle.algebra.proofs.Filling.{Filled, filled_none, filled_map, filled_front}
+use Rattle.algebra.proofs.Filling.{filled_none, filled_map, filled_front}
 use Rattle.parameters.specs.Limits.{max_n}
 use Rattle.transform.specs.Asks.{powers_in_order}
 use Rattle.transform.proofs.evaluation.reordered_powers.Goals as goal

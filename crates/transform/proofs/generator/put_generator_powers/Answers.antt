@@ -1,7 +1,6 @@
 -- `put_generator_powers` meets its contract: each arm's table passes the test of its set.
 use mathlib.Core.Path.{◌≡◌}
 use native.Mathlib.Omega.{arith}
-use borrow.Author.Rules.{rules}
 use Rattle.parameters.specs.Sets.{sets, set_of}
 use Rattle.transform.specs.Generator.{generators, generator_of}
 use Rattle.transform.proofs.Tables.{arm_size, arm}

@@ -1,0 +1,29 @@
+-- `minus` meets its contract: the difference is above -2^31.
+use mathlib.Core.Path.{◌≡◌, sym, ap, ap₂, ◌∙◌}
+use Prim.Native.Nat.{ℕ}
+use native.Mathlib.Nat.{one-mul}
+use native.Mathlib.Omega.{arith}
+use lib.IntN.{pos, neg_ℤ, ◌+ℤ◌, ◌-ℤ◌}
+use mir.Facts.{to_z-of_z, to_z_pos}
+use mir.Syntax.{w32}
+use mir.Val.{SFits, to_z, of_z}
+use Rattle.algebra.proofs.Absolute.{abs-add, abs-neg}
+use Rattle.algebra.proofs.Signed.{fits_signed}
+use Rattle.split.proofs.sparse.minus.Lts as lts
+use Rattle.split.proofs.sparse.minus.Reads as reads
+use Rattle.split.proofs.sparse.minus.Goals as goal
+
+abbrev At-Start : Type 0
+At-Start = lts.Start reads.Pre reads.Post
+
+read : (c : At-Start) → to_z w32 (of_z w32 c.args.z) -ℤ to_z w32 c.args.x ≡ c.args.z -ℤ pos c.args.x
+read c = ap₂ ◌-ℤ◌ (to_z-of_z c.ranges.z) (to_z_pos w32 {n = c.args.x} (omega (arith, c.requires.1)))
+
+fits : (c : At-Start) → SFits w32 (c.args.z -ℤ pos c.args.x)
+fits c = fits_signed w32 _ (omega (arith, abs-add c.args.z (neg_ℤ (pos c.args.x)), abs-neg (pos c.args.x), c.requires))
+
+pub overflow_sub-result : goal.overflow_sub-result
+overflow_sub-result c = rw (read c) (fits c)
+
+pub returns : goal.returns
+returns c = rw (read c) (to_z-of_z (fits c) ∙ ap (λ (x : ℕ). c.args.z +ℤ neg_ℤ (pos x)) (sym (one-mul c.args.x)))
