@@ -212,7 +212,7 @@ pub fn read_signature(bytes: &[u8], entries: &mut [u16], z: &mut [i16]) -> Answe
     ensures number { answer_states result ≡ stated
         (read_signature_refusal bytes.now (length entries.old) (length z.old)) [] }
     ensures challenge { entries.new ≡ read_entries_written bytes.now entries.old z.old }
-    ensures zOf { z.new ≡ read_z_written bytes.now entries.old z.old }
+    ensures z_written { z.new ≡ read_z_written bytes.now entries.old z.old }
 {
     if bytes.len() == 0 {
         return Answer::Refused(WRONG_LENGTH);

@@ -159,10 +159,10 @@ module _ (p : Params) (xs ys : List ℕ) (first : get_or xs 0 0 ≡ get_or ys 0 
   pub one_signature : length xs ≡ signature_size p → T (are_below 256 xs) → T (are_entries p.n (entries_read p xs))
       → length ys ≡ signature_size p → T (are_below 256 ys) → T (are_entries p.n (entries_read p ys))
       → challenge_of p.n (entries_read p xs) ≡ challenge_of p.n (entries_read p ys) → z_read p xs ≡ z_read p ys → xs ≡ ys
-  one_signature l t allowed l' t' allowed' challenge zOf =
+  one_signature l t allowed l' t' allowed' challenge same_z =
       sym (signature_of_meaning p xs l t allowed)
       ∙ ap (λ (s : ℕ). signature_bytes s (entries_of (challenge_of p.n (entries_read p xs))) (z_read p xs)) first
-      ∙ ap₂ (λ (c z : List ℤ). signature_bytes (get_or ys 0 0) (entries_of c) z) challenge zOf ∙ signature_of_meaning p ys l' t' allowed'
+      ∙ ap₂ (λ (c z : List ℤ). signature_bytes (get_or ys 0 0) (entries_of c) z) challenge same_z ∙ signature_of_meaning p ys l' t' allowed'
 
   -- public keys that have the same exponents and the same evaluations
   pub one_public_key : length xs ≡ public_key_size p → T (are_below 256 xs) → length ys ≡ public_key_size p → T (are_below 256 ys)

@@ -206,7 +206,7 @@ pub fn copy_i16(from: &[i16], to: &mut [i16])
 // Numbers that 16 bits have room for, as such: a point z that is in range.
 pub fn narrow(from: &[i32], to: &mut [i16])
     requires to_len { length to.old ≡ length from.now }
-    requires t { T (within 32767 from.now) }
+    requires from_within { T (within 32767 from.now) }
     ensures { to.new ≡ from.now }
 {
     let mut i: usize = 0;

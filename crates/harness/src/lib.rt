@@ -30,7 +30,7 @@ pub extern "C" fn harness_sha512_of_two(first: &[u8], second: &[u8], out: &mut [
 #[unsafe(no_mangle)]
 pub extern "C" fn harness_point(f: &[i16], c: &[i8], y: &[i16], z: &mut [i32])
     requires f_len_bound { (length f.now ≤ 1153) × (length c.now ≡ length f.now) × (length y.now ≡ length f.now) × (length z.old ≡ length f.now) }
-    requires t { T (ternary f.now) × T (ternary c.now) }
+    requires are_ternary { T (ternary f.now) × T (ternary c.now) }
     ensures { z.new ≡ z_of f.now c.now y.now }
 {
     polynomial::product::z_of(f, c, y, z);
@@ -60,9 +60,9 @@ pub extern "C" fn harness_evaluate(
     exponents: &[u16],
     out: &mut [i32],
 )
-    requires set_value { is_set set ≡ true }
+    requires known_set { is_set set ≡ true }
     requires coefficients_len { length coefficients.now ≡ (set_of set).n }
-    requires t { T (are_below (set_of set).n exponents.now) }
+    requires exponents_below { T (are_below (set_of set).n exponents.now) }
     requires out_len { length out.old ≡ length exponents.now }
     ensures { out.new ≡ evaluations (set_of set) coefficients.now exponents.now }
 {

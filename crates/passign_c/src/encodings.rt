@@ -63,7 +63,7 @@ pub extern "C" fn passign_read_signature(
 ) -> u32
     ensures answer { result ≡ read_signature_refusal signature.now (length entries.old) (length z.old) }
     ensures challenge { entries.new ≡ read_entries_written signature.now entries.old z.old }
-    ensures zOf { z.new ≡ read_z_written signature.now entries.old z.old }
+    ensures z_written { z.new ≡ read_z_written signature.now entries.old z.old }
 {
     number(passign::read_signature(signature, entries, z))
 }

@@ -10,7 +10,7 @@ use mathlib.Core.Logic.{⊎_elim}
 use lib.IntN.{ℤ, pos}
 use lib.ListN.{length, take, drop, length-drop, take-append-drop, get_or-append}
 use lib.Seq.{append_snoc, get_or-take, get_or-drop, take-suc, length-take-le}
-use Rattle.algebra.proofs.List.{get_d_after}
+use Rattle.algebra.proofs.List.{get_or_after}
 use Rattle.algebra.proofs.Remainder.{round_once}
 use Rattle.algebra.proofs.Test.{lt_or_le}
 use Rattle.polynomial.specs.Polynomial.{coefficient, add, scale, push, last_of, rotate, star, z_of}
@@ -51,7 +51,7 @@ module _ (f : List ℤ) (n i : ℕ) (size : length f ≡ n) (h : i ≤ n) where
       get_or-append (drop (n - i) f) (take (n - i) f) (pos 0) k (omega arith) ∙ get_or-drop (n - i) f k (pos 0)
       ∙ ap (coefficient f) (let m : (k + (n - i)) % n ≡ k + (n - i) = mod-eq_of_lt (omega arith) in omega arith))
       (λ (b : i ≤ k).
-      get_d_after (drop (n - i) f) (take (n - i) f) k (pos 0) (omega arith)
+      get_or_after (drop (n - i) f) (take (n - i) f) k (pos 0) (omega arith)
       ∙ ap (λ (m : ℕ). coefficient (take (n - i) f) (k - m)) e
       ∙ get_or-take (n - i) f (k - i) (pos 0) (omega arith)
       ∙ ap (coefficient f) (omega (arith, round_once {n = n} (k + (n - i)) (omega arith) (omega arith))))

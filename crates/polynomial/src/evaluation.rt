@@ -134,7 +134,7 @@ pub fn evaluate(
 )
     requires usable { Usable p powers.now }
     requires coefficients_len { length coefficients.now ≡ p.n }
-    requires t { T (are_below p.n exponents.now) }
+    requires exponents_below { T (are_below p.n exponents.now) }
     requires out_len { length out.old ≡ length exponents.now }
     ensures { out.new ≡ evaluations p coefficients.now exponents.now }
 {
@@ -156,7 +156,7 @@ pub fn evaluate_residues(
 )
     requires usable { Usable p powers.now }
     requires coefficients_len { length coefficients.now ≡ p.n }
-    requires t { T (are_below p.n exponents.now) }
+    requires exponents_below { T (are_below p.n exponents.now) }
     requires out_len { length out.old ≡ length exponents.now }
     ensures { out.new ≡ evaluation_residues p coefficients.now exponents.now }
 {

@@ -41,7 +41,7 @@ fn add_rotated(sums: &mut [i16], f: &[i16], i: usize, a: i8)
 // f ⋆ c + sums. A turn moves a sum by at most 1, and there are at most max_n turns: 16 bits are enough.
 fn add_star(f: &[i16], c: &[i8], sums: &mut [i16])
     requires f_len_bound { (length f.now ≤ max_n) × (length c.now ≡ length f.now) × (length sums.old ≡ length f.now) }
-    requires t { T (ternary f.now) × T (ternary c.now) × T (within (2 ^ 13) sums.old) }
+    requires small { T (ternary f.now) × T (ternary c.now) × T (within (2 ^ 13) sums.old) }
     ensures { sums.new ≡ add (star f.now c.now) sums.old }
 {
     let mut i: usize = 0;
@@ -76,7 +76,7 @@ fn add_mask(sums: &[i16], y: &[i16], z: &mut [i32])
 // The point f ⋆ c + y.
 pub fn z_of(f: &[i16], c: &[i8], y: &[i16], z: &mut [i32])
     requires f_len_bound { (length f.now ≤ max_n) × (length c.now ≡ length f.now) × (length y.now ≡ length f.now) × (length z.old ≡ length f.now) }
-    requires t { T (ternary f.now) × T (ternary c.now) }
+    requires are_ternary { T (ternary f.now) × T (ternary c.now) }
     ensures { z.new ≡ z_of f.now c.now y.now }
 {
     let n = f.len();

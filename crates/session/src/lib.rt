@@ -164,7 +164,7 @@ fn go_on(
     signature: &mut [u8],
 ) -> StepResult
     requires sizes { Sizes exponents.old key.old evaluations.old masks.old message.old signature.old }
-    requires set_value { (rules.refusal_due file.now at (set_held flags.set) ≡ 0) × (0 < get_or file.now at 0) }
+    requires command_due { (rules.refusal_due file.now at (set_held flags.set) ≡ 0) × (0 < get_or file.now at 0) }
     requires ordinal_value { (ordinal ≡ rows_of flags.rows flags.place + 1) × (ordinal ≤ at) }
     ensures { ByStep flags result exponents key evaluations masks message signature (λ s. rules.command_step s file.now at) }
 {

@@ -35,7 +35,7 @@ pub fn check_held(
 ) -> CommandResult
     requires in_set { InSet p flags.set × (length operand.now ≡ 2 * p.b + 2 * p.n) }
     requires exponents_len { (length exponents.now ≡ max_t) × (length evaluations.now ≡ max_t) × (length message.now ≡ message_size) }
-    requires message_value { has_exponents p flags.exponents exponents.now && (has_evaluations p flags.evaluations evaluations.now && flags.message) ≡ true }
+    requires held { has_exponents p flags.exponents exponents.now && (has_evaluations p flags.evaluations evaluations.now && flags.message) ≡ true }
     ensures result { ByCheck p flags operand.now result exponents evaluations message }
     ensures set { result.flags.set ≡ flags.set }
 {

@@ -89,7 +89,7 @@ pub fn sign_held(
 ) -> CommandResult
     requires in_set { InSet p flags.set × (length exponents.now ≡ max_t) × (length key.now ≡ max_n) × (length masks.old ≡ mask_room) }
     requires message_len { (length message.now ≡ message_size) × (length signature.old ≡ max_signature) }
-    requires message_value { has_exponents p flags.exponents exponents.now && (flags.key && flags.message) ≡ true }
+    requires held { has_exponents p flags.exponents exponents.now && (flags.key && flags.message) ≡ true }
     ensures result { BySign p flags result exponents key masks message signature }
     ensures set { result.flags.set ≡ flags.set }
 {

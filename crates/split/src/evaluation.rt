@@ -89,7 +89,7 @@ fn sum_reordered(
     y: &mut [u32],
 )
     requires staged { Staged q shape.start shape.l twists.now rows.now × (m ≡ inverse q) }
-    requires t { T (are_below q lifted.now) × T (are_below (length lifted.now) order.now) }
+    requires lifted_below { T (are_below q lifted.now) × T (are_below (length lifted.now) order.now) }
     requires order_len { (length order.now ≡ length twists.now * shape.l) × (length y.old ≡ length order.now) }
     ensures size { length y.new ≡ length y.old }
     ensures stages { Correlated q shape.l twists.now rows.now

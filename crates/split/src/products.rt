@@ -40,7 +40,7 @@ fn two_products(f: u64, g: u64, b: &[u32], at: usize) -> u64
 // The products at place x added to four sums of x products each, where x is below n.
 fn with_last(four: Four, a: &[u32], i: usize, b: &[u32], j: usize, x: usize, n: usize) -> Four
     requires under_in { UnderIn (2 ^ 24) a.now i n × (i + n ≤ length a.now) × (length a.now ≤ max_n) }
-    requires t { T (are_below (2 ^ 20) b.now) × (j + n + 3 ≤ length b.now) × (length b.now ≤ 2 * max_n) }
+    requires b_below { T (are_below (2 ^ 20) b.now) × (j + n + 3 ≤ length b.now) × (length b.now ≤ 2 * max_n) }
     requires x_le_n { (x ≤ n) × (n ≤ x + 1)
         × (four.a ≡ nat_abs (dot_at (drop i a.now) b.now j x))
         × (four.b ≡ nat_abs (dot_at (drop i a.now) b.now (j + 1) x))
@@ -67,7 +67,7 @@ fn with_last(four: Four, a: &[u32], i: usize, b: &[u32], j: usize, x: usize, n: 
 // Four sums of n products each: numbers of a from i on times numbers of b from j, j + 1, j + 2 and j + 3 on.
 fn four_dots(a: &[u32], i: usize, b: &[u32], j: usize, n: usize) -> Four
     requires under_in { UnderIn (2 ^ 24) a.now i n × (i + n ≤ length a.now) × (length a.now ≤ max_n) }
-    requires t { T (are_below (2 ^ 20) b.now) × (j + n + 3 ≤ length b.now) × (length b.now ≤ 2 * max_n) }
+    requires b_below { T (are_below (2 ^ 20) b.now) × (j + n + 3 ≤ length b.now) × (length b.now ≤ 2 * max_n) }
     ensures { (result.a ≡ nat_abs (dot_at (drop i a.now) b.now j n))
         × (result.b ≡ nat_abs (dot_at (drop i a.now) b.now (j + 1) n))
         × (result.c ≡ nat_abs (dot_at (drop i a.now) b.now (j + 2) n))
@@ -99,7 +99,7 @@ fn four_dots(a: &[u32], i: usize, b: &[u32], j: usize, n: usize) -> Four
 // One such sum.
 fn dot(a: &[u32], i: usize, b: &[u32], j: usize, n: usize) -> u64
     requires under_in { UnderIn (2 ^ 24) a.now i n × (i + n ≤ length a.now) × (length a.now ≤ max_n) }
-    requires t { T (are_below (2 ^ 20) b.now) × (j + n ≤ length b.now) × (length b.now ≤ 2 * max_n) }
+    requires b_below { T (are_below (2 ^ 20) b.now) × (j + n ≤ length b.now) × (length b.now ≤ 2 * max_n) }
     ensures { result ≡ nat_abs (dot_at (drop i a.now) b.now j n) }
 {
     let mut s: u64 = 0;
@@ -125,7 +125,7 @@ fn fill_by_four(
 ) -> usize
     requires modulus { Modulus q × (m ≡ inverse q) × (l ≤ 128) }
     requires under_in { UnderIn (2 ^ 24) x.now i l × (i + l ≤ length x.now) × (length x.now ≤ max_n) × (i + l ≤ length y.old) }
-    requires t { T (are_below (2 ^ 20) rows.now) × (j + l + l ≤ length rows.now + 1) × (length rows.now ≤ 2 * max_n) }
+    requires rows_below { T (are_below (2 ^ 20) rows.now) × (j + l + l ≤ length rows.now + 1) × (length rows.now ≤ 2 * max_n) }
     ensures few { result ≤ l }
     ensures filled { y.new ≡ sets y.old i
         (map (λ v. folded q (nat_abs (dot_at (drop i x.now) rows.now (j + v) l))) (up_from 0 result)) }
@@ -157,7 +157,7 @@ fn fill_singly(
 )
     requires modulus { Modulus q × (m ≡ inverse q) × (l ≤ 128) × (n ≤ l) }
     requires under_in { UnderIn (2 ^ 24) x.now i l × (i + l ≤ length x.now) × (length x.now ≤ max_n) × (i + l ≤ length y.old) }
-    requires t { T (are_below (2 ^ 20) rows.now) × (j + l + l ≤ length rows.now + 1) × (length rows.now ≤ 2 * max_n) }
+    requires rows_below { T (are_below (2 ^ 20) rows.now) × (j + l + l ≤ length rows.now + 1) × (length rows.now ≤ 2 * max_n) }
     ensures { y.new ≡ sets y.old (i + n)
         (map (λ v. folded q (nat_abs (dot_at (drop i x.now) rows.now (j + v) l))) (up_from n (l - n))) }
 {
@@ -172,7 +172,7 @@ fn fill_singly(
 fn fill_row(x: &[u32], i: usize, rows: &[u32], j: usize, l: usize, q: u32, m: u32, y: &mut [u32])
     requires modulus { Modulus q × (m ≡ inverse q) × (l ≤ 128) }
     requires under_in { UnderIn (2 ^ 24) x.now i l × (i + l ≤ length x.now) × (length x.now ≤ max_n) × (i + l ≤ length y.old) }
-    requires t { T (are_below (2 ^ 20) rows.now) × (j + l + l ≤ length rows.now + 1) × (length rows.now ≤ 2 * max_n) }
+    requires rows_below { T (are_below (2 ^ 20) rows.now) × (j + l + l ≤ length rows.now + 1) × (length rows.now ≤ 2 * max_n) }
     ensures { y.new ≡ sets y.old i
         (map (λ v. folded q (nat_abs (dot_at (drop i x.now) rows.now (j + v) l))) (up_from 0 l)) }
 {

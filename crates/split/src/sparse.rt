@@ -84,7 +84,7 @@ fn add_multiple(sums: &mut [i32], row: &[u32], a: i8)
 // The sums of a challenge, into numbers that are 0. `twice` has the powers of g in the order of the table, twice.
 pub fn sparse_sums(c: &[i8], order: &[u32], twice: &[u32], sums: &mut [i32])
     requires order_len_bound { (length order.now ≤ max_n) × (length twice.now ≡ 2 * length order.now) }
-    requires t { T (ternary c.now) × T (are_below (length c.now) order.now) × T (are_below (2 ^ 20) twice.now) }
+    requires small { T (ternary c.now) × T (are_below (length c.now) order.now) × T (are_below (2 ^ 20) twice.now) }
     requires sums_value { sums.old ≡ replicate (length order.now) (pos 0) }
     ensures each { SparseSums c.now order.now twice.now sums.new }
     ensures small { T (within (max_n * 2 ^ 20) sums.new) }

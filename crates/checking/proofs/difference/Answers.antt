@@ -6,7 +6,6 @@ use Rattle.algebra.proofs.Remainder.{product_below}
 use Rattle.checking.proofs.Recovery.{difference_is}
 use Rattle.checking.proofs.difference.Lts as lts
 use Rattle.checking.proofs.difference.Reads as reads
-use Rattle.checking.proofs.difference.Tie as tie
 use Rattle.checking.proofs.difference.Goals as goal
 
 abbrev At-Start : Type 0

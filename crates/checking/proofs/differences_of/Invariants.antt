@@ -1,14 +1,9 @@
 -- `differences_of` meets its contract: the loop works out one difference a turn.
-use mathlib.Core.Path.{◌∙◌}
 use Prim.Native.Nat.{◌-◌}
-use native.Mathlib.Omega.{arith}
 use lib.ListN.{length}
-use borrow.Author.Rules.{rules}
-use Rattle.algebra.proofs.All.{below_at}
-use Rattle.algebra.proofs.Filling.{Filled, filled_none, filled_more, filled_front}
+use Rattle.algebra.proofs.Filling.{Filled}
 use Rattle.parameters.specs.Limits.{max_t}
 use Rattle.scheme.specs.Scheme.{differences}
-use Rattle.checking.proofs.Recovery.{length-differences, difference_at}
 use Rattle.checking.proofs.differences_of.Given as goal
 
 abbrev pub invariant-loop-i : goal.invariant-loop-i

@@ -1,5 +1,4 @@
 -- `refusal_of` meets its contract: the chain of tests is the definition's.
-use borrow.Author.Rules.{rules}
 use Rattle.checking.specs.Check.{check_refusal_of}
 use Rattle.checking.proofs.refusal_of.Goals as goal
 

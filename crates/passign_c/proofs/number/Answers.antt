@@ -1,7 +1,6 @@
 -- `number` meets its contract: each case of the answer has its number.
 use mathlib.Core.Path.{sym, ap}
 use Rattle.refusal.specs.Answer.{number_of}
-use borrow.Author.Rules.{rules}
 use Rattle.passign_c.proofs.number.Goals as goal
 
 pub returns-in-Done : goal.returns-in-Done

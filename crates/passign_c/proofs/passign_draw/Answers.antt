@@ -2,7 +2,6 @@
 use mathlib.Core.Path.{ap, ◌∙◌}
 use Rattle.refusal.specs.Answer.{number_of}
 use Rattle.refusal.proofs.Answering.{numbered}
-use borrow.Author.Rules.{rules}
 use Rattle.passign_c.proofs.passign_draw.Goals as goal
 
 pub returns : goal.returns

@@ -1,7 +1,6 @@
 -- `passign_sign` meets its contract: each case of the answer has its number.
 use mathlib.Core.Path.{sym, ap, ◌∙◌}
 use Rattle.refusal.specs.Answer.{signing_number}
-use borrow.Author.Rules.{rules}
 use Rattle.passign_c.proofs.passign_sign.Goals as goal
 
 pub returns-in-Signed : goal.returns-in-Signed

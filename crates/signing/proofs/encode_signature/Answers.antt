@@ -35,7 +35,7 @@ pub slice_bounds-narrow-end : goal.slice_bounds-narrow-end
 slice_bounds-narrow-end c = (in_front c.args.p.n (replicate 1153 (pos 0)) (search rules)).count
 
 pub narrow-requires : goal.narrow-requires
-narrow-requires c = record { to_len = sym (slice_bounds-narrow-end c) ∙ sym c.requires.1.z_size; t = c.requires.1.z_small }
+narrow-requires c = record { to_len = sym (slice_bounds-narrow-end c) ∙ sym c.requires.1.z_size; from_within = c.requires.1.z_small }
 
 entries : (c : At-After-narrow) → let s = c.args in
     InFront s.p.b (entries_of s.c.now) (c.write_entries.new.entries ++ drop s.p.b (replicate 64 0))

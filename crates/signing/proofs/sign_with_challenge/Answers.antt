@@ -26,7 +26,7 @@ slice_bounds-z_of-end c = (in_front c.args.p.n (replicate 1153 (pos 0)) (search 
 pub z_of-requires : goal.z_of-requires
 z_of-requires c = let (sound, fitting, key, challenge) = c.requires.sound in
     let size = key.size in
-    record { f_len_bound = (omega (arith, fitting.size), challenge.size ∙ sym size, c.requires.y_len.0 ∙ sym size, sym (slice_bounds-z_of-end c) ∙ sym size); t = (key.small, challenge.small) }
+    record { f_len_bound = (omega (arith, fitting.size), challenge.size ∙ sym size, c.requires.y_len.0 ∙ sym size, sym (slice_bounds-z_of-end c) ∙ sym size); are_ternary = (key.small, challenge.small) }
 
 abbrev z : (c : At-After-z_of) → List ℤ
 z c = c.z_of.new.z ++ drop c.args.p.n (replicate 1153 (pos 0))

@@ -23,13 +23,13 @@ small from i t h =
 
 pub overflow_cast-to : goal.overflow_cast-to
 overflow_cast-to c = let l = c.loop-i in
-    rw (reread w32 (get_or c.args.from.now l.i (pos 0)) c.to-1.given) (small c.args.from.now l.i c.requires.t (omega arith))
+    rw (reread w32 (get_or c.args.from.now l.i (pos 0)) c.to-1.given) (small c.args.from.now l.i c.requires.from_within (omega arith))
 
 pub loop-i-preserved : goal.loop-i-preserved
 loop-i-preserved c = let l = c.loop-i in
     let z = get_or c.args.from.now l.i (pos 0) in
     filled_more l.invariant (pos 0) (omega arith) (omega arith)
-    (ap (λ (y : ℤ). to_z w16 (of_z w16 y)) (reread w32 z c.to-1.given) ∙ to_z-of_z (small c.args.from.now l.i c.requires.t (omega arith)))
+    (ap (λ (y : ℤ). to_z w16 (of_z w16 y)) (reread w32 z c.to-1.given) ∙ to_z-of_z (small c.args.from.now l.i c.requires.from_within (omega arith)))
 
 pub returns : goal.returns
 returns c = filled_all c.loop-i.invariant (omega arith) (omega arith)

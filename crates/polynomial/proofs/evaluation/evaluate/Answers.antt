@@ -14,7 +14,7 @@ use Rattle.polynomial.specs.Evaluation.{evaluation, evaluation_residue, evaluati
 use Rattle.polynomial.proofs.evaluation.evaluate.Goals as goal
 
 pub sum_at-requires : goal.sum_at-requires
-sum_at-requires c = record { usable = c.requires.usable; coefficients_len = (c.requires.coefficients_len, below_at c.args.p.n c.args.exponents.now c.requires.t c.loop-i.i (search rules)) }
+sum_at-requires c = record { usable = c.requires.usable; coefficients_len = (c.requires.coefficients_len, below_at c.args.p.n c.args.exponents.now c.requires.exponents_below c.loop-i.i (search rules)) }
 
 pub loop-i-preserved : goal.loop-i-preserved
 unfolding evaluation evaluation_residue

@@ -13,7 +13,7 @@ use Rattle.polynomial.specs.Evaluation.{evaluation_residue, evaluation_residues}
 use Rattle.polynomial.proofs.evaluation.evaluate_residues.Goals as goal
 
 pub sum_at-requires : goal.sum_at-requires
-sum_at-requires c = record { usable = c.requires.usable; coefficients_len = (c.requires.coefficients_len, below_at c.args.p.n c.args.exponents.now c.requires.t c.loop-i.i (search rules)) }
+sum_at-requires c = record { usable = c.requires.usable; coefficients_len = (c.requires.coefficients_len, below_at c.args.p.n c.args.exponents.now c.requires.exponents_below c.loop-i.i (search rules)) }
 
 pub loop-i-preserved : goal.loop-i-preserved
 loop-i-preserved c = let sum = c.sum_at in

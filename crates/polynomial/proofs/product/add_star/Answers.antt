@@ -27,9 +27,9 @@ add_rotated-requires c = let l = c.loop-i in
         size = omega (arith, ap length l.invariant.1, length_z f (take l.i e) sums (omega arith));
         room =
             rw l.invariant.1
-            (within_mono (omega arith) (z_of f (take l.i e) sums) (partial_within (2 ^ 13) l.i f e sums c.requires.t.0 c.requires.t.1 c.requires.t.2));
-        small = c.requires.t.0;
-        factor = rw (to_z-of_z fits) (within-coefficient 1 e l.i c.requires.t.1);
+            (within_mono (omega arith) (z_of f (take l.i e) sums) (partial_within (2 ^ 13) l.i f e sums c.requires.small.0 c.requires.small.1 c.requires.small.2));
+        small = c.requires.small.0;
+        factor = rw (to_z-of_z fits) (within-coefficient 1 e l.i c.requires.small.1);
       },
       omega arith,
     )

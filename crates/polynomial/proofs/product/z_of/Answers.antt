@@ -24,7 +24,7 @@ slice_bounds-add_star-end c = (in_front (length c.args.f.now) (replicate 1153 (p
 
 pub add_star-requires : goal.add_star-requires
 add_star-requires c = let room = within-take (2 ^ 13) (length c.args.f.now) (replicate 1153 (pos 0)) (within_zeros (2 ^ 13) 1153) in
-    record { f_len_bound = (c.requires.f_len_bound.0, c.requires.f_len_bound.1, sym (slice_bounds-add_star-end c)); t = (c.requires.t.0, c.requires.t.1, room) }
+    record { f_len_bound = (c.requires.f_len_bound.0, c.requires.f_len_bound.1, sym (slice_bounds-add_star-end c)); small = (c.requires.are_ternary.0, c.requires.are_ternary.1, room) }
 
 abbrev n : (c : At-After-sums-2-1) → ℕ
 n c = length c.args.f.now

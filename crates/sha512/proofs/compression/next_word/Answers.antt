@@ -1,4 +1,4 @@
--- `next_word` is next_word: each sum is modulo 2 ^ 64.
+-- The function `next_word` is the definition of that name: each sum is modulo 2 ^ 64.
 use Rattle.sha512.specs.Word.{add}
 use Rattle.sha512.specs.Compression.{next_word}
 use Rattle.sha512.proofs.compression.next_word.Goals as goal

@@ -58,7 +58,7 @@ slice_bounds-sparse_sums-end-2 c = (in_front (2 * last c.before.before.before.be
 pub sparse_sums-requires : goal.sparse_sums-requires
 sparse_sums-requires c = record {
   order_len_bound = (omega (arith, size c.before.before.before.before.before.before.before, c.requires.0.fitting.size), sym (slice_bounds-sparse_sums-end-2 (up-After-twice-1 c.before.before)) ∙ ap (λ (n : ℕ). 2 * n) (sym (size c.before.before.before.before.before.before.before)));
-  t = (
+  small = (
     c.requires.4,
     order_below c.requires.0 c.requires.1 c.requires.2 _ (omega (arith, c.requires.3)),
     twice_below c.requires.0 c.requires.1 c.requires.2 c.powers_twice-twice.ensures,

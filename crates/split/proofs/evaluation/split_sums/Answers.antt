@@ -53,7 +53,7 @@ sum_reordered-requires c = let e = c.shape_of-shape.ensures in
     let k = ap (λ (r : Shape). r.k) e in
     let usable = c.requires.usable.0 in
     let parts = tables usable c.requires.usable.1 c.requires.usable.2 in
-    rw (middle c.before.before.before.before.before.before.before.before.before.before k, last_part c.before.before.before.before.before.before.before.before.before.before k, e) record { staged = (staged_of usable.sound usable.fitting parts, c.requires.usable.3); t = (c.requires.lifted_len.1, order_below usable c.requires.usable.1 c.requires.usable.2 _ (omega (arith, c.requires.lifted_len.0))); order_len = (orders_all usable.sound usable.fitting parts, c.requires.lifted_len.2 ∙ sym (size c.before.before.before.before.before.before.before.before.before.before)) }
+    rw (middle c.before.before.before.before.before.before.before.before.before.before k, last_part c.before.before.before.before.before.before.before.before.before.before k, e) record { staged = (staged_of usable.sound usable.fitting parts, c.requires.usable.3); lifted_below = (c.requires.lifted_len.1, order_below usable c.requires.usable.1 c.requires.usable.2 _ (omega (arith, c.requires.lifted_len.0))); order_len = (orders_all usable.sound usable.fitting parts, c.requires.lifted_len.2 ∙ sym (size c.before.before.before.before.before.before.before.before.before.before)) }
 
 pub overflow_sub-last : goal.overflow_sub-last
 overflow_sub-last c = omega (arith, several c.requires.usable.0 c.requires.usable.1 c.requires.usable.2)

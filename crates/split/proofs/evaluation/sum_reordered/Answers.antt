@@ -35,14 +35,14 @@ filled c = stored (last c.before.before.before.before.before.before.before) (dro
 
 pub correlate-requires : goal.correlate-requires
 correlate-requires c = let size = ordered_length c.args.lifted.now c.args.order.now in
-    let under = ordered_under c.args.lifted.now c.args.order.now c.requires.t.0 c.requires.t.1 in
+    let under = ordered_under c.args.lifted.now c.args.order.now c.requires.lifted_below.0 c.requires.lifted_below.1 in
     rw (filled c.before.before.before.before).front record { staged = c.requires.staged; x_len = (size ∙ c.requires.order_len.0, c.requires.order_len.1 ∙ c.requires.order_len.0, under) }
 
 pub slice_bounds-x-end : goal.slice_bounds-x-end
 slice_bounds-x-end c = room c.before.before.before.before.before.before
 
 pub reorder-requires : goal.reorder-requires
-reorder-requires c = (sym (slice_bounds-reorder-end c), c.requires.t.1)
+reorder-requires c = (sym (slice_bounds-reorder-end c), c.requires.lifted_below.1)
 
 pub slice_bounds-x-end-2 : goal.slice_bounds-x-end-2
 slice_bounds-x-end-2 c = (filled c.before.before).room

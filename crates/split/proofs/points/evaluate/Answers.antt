@@ -9,7 +9,7 @@ pub evaluate-requires : goal.evaluate-requires
 evaluate-requires c = record {
   usable = c.requires.usable.0;
   coefficients_len = c.requires.f_len.0;
-  t = exponents_below c.args.p c.args.exponents.now
+  exponents_below = exponents_below c.args.p c.args.exponents.now
       c.requires.f_len.1;
   out_len = c.requires.f_len.2;
 }

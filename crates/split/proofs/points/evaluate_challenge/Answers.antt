@@ -29,7 +29,7 @@ pub slice_bounds-evaluate_residues-end : goal.slice_bounds-evaluate_residues-end
 slice_bounds-evaluate_residues-end c = size c.before.before
 
 pub evaluate_residues-requires : goal.evaluate_residues-requires
-evaluate_residues-requires c = record { usable = c.requires.usable.0; coefficients_len = sym (size c.before.before.before); t = exponents_below c.args.p c.args.exponents.now c.requires.c_len.1; out_len = c.requires.c_len.2 }
+evaluate_residues-requires c = record { usable = c.requires.usable.0; coefficients_len = sym (size c.before.before.before); exponents_below = exponents_below c.args.p c.args.exponents.now c.requires.c_len.1; out_len = c.requires.c_len.2 }
 
 pub challenge_values-values-requires : goal.challenge_values-values-requires
 challenge_values-values-requires c = (c.requires.usable.0, c.requires.usable.1, omega arith, c.requires.c_len.0, c.requires.usable.2)

@@ -19,7 +19,7 @@ At-In-loop-v = lts.In-loop tie.the-claims reads.Pre reads.Post goal.the-invarian
 
 pub four_dots-f-requires : goal.four_dots-f-requires
 four_dots-f-requires c = let p = c.requires in
-    record { under_in = (p.under_in.0, p.under_in.1, p.under_in.2); t = (p.t.0, omega (arith, p.t), p.t.2) }
+    record { under_in = (p.under_in.0, p.under_in.1, p.under_in.2); b_below = (p.rows_below.0, omega (arith, p.rows_below), p.rows_below.2) }
 
 -- one of the four sums, from place k of the rows on, can be reduced
 small : (c : At-After-four_dots-f) (s k : ℕ)
@@ -27,7 +27,7 @@ small : (c : At-After-four_dots-f) (s k : ℕ)
     → k ≤ c.args.j + c.loop-v.v + 3 → s < 2 ^ 51
 small c s k is at = let p = c.requires in
     let a = c.args in
-    summed_small a.x.now a.i a.rows.now k a.l is p.modulus.2 p.under_in.0 p.t.0 (omega (arith, p.t))
+    summed_small a.x.now a.i a.rows.now k a.l is p.modulus.2 p.under_in.0 p.rows_below.0 (omega (arith, p.rows_below))
 
 -- the places that a turn writes
 inside : (c : At-In-loop-v)

@@ -8,7 +8,7 @@ fill_singly-requires c = let p = c.requires in
     let a = c.args in
     let four = c.fill_by_four-n in
     let size = stored_size (product a.q a.x.now a.i a.rows.now a.j a.l) a.y.now a.i 0 four.result four.ensures.filled in
-    record { modulus = (p.modulus.0, p.modulus.1, p.modulus.2, four.ensures.few); under_in = (p.under_in.0, p.under_in.1, p.under_in.2, omega (arith, size, p.under_in.3)); t = p.t }
+    record { modulus = (p.modulus.0, p.modulus.1, p.modulus.2, four.ensures.few); under_in = (p.under_in.0, p.under_in.1, p.under_in.2, omega (arith, size, p.under_in.3)); rows_below = p.rows_below }
 
 pub returns : goal.returns
 returns c = let a = c.args in

@@ -20,13 +20,13 @@ loop-v-init c = let a = c.args in
 
 pub dot-requires : goal.dot-requires
 dot-requires c = let p = c.requires in
-    record { under_in = (p.under_in.0, p.under_in.1, p.under_in.2); t = (p.t.0, omega (arith, p.t), p.t.2) }
+    record { under_in = (p.under_in.0, p.under_in.1, p.under_in.2); b_below = (p.rows_below.0, omega (arith, p.rows_below), p.rows_below.2) }
 
 pub fold-requires : goal.fold-requires
 fold-requires c = let a = c.args in
     let p = c.requires in
     let at = a.j + c.loop-v.v in
-    (p.modulus.0, p.modulus.1, summed_small a.x.now a.i a.rows.now at a.l c.dot.ensures p.modulus.2 p.under_in.0 p.t.0 (omega (arith, p.t)))
+    (p.modulus.0, p.modulus.1, summed_small a.x.now a.i a.rows.now at a.l c.dot.ensures p.modulus.2 p.under_in.0 p.rows_below.0 (omega (arith, p.rows_below)))
 
 pub loop-v-preserved : goal.loop-v-preserved
 loop-v-preserved c = let a = c.args in

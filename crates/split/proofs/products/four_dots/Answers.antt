@@ -28,7 +28,7 @@ inside : (c : At-In-loop-x)
     × (length a.b.now ≤ 2 * max_n))
 inside c = let p = c.requires in
     let more = c.loop-x-test.true in
-    (more, omega (arith, more, p.under_in.1), p.under_in.2, omega (arith, more, p.t.1), p.t.2)
+    (more, omega (arith, more, p.under_in.1), p.under_in.2, omega (arith, more, p.b_below.1), p.b_below.2)
 
 -- what a call of `two_products` asks of its place in b
 asks : (c : At-After-wide-g) (at : ℕ)
@@ -55,7 +55,7 @@ room : (c : At-After-two_products-s0) (s p k : ℕ)
 room c s p k is l small = let x = c.loop-x.x in
     let a = c.args in
     let below = summed_room a.a.now a.i a.b.now k x is a.n (omega (arith, (inside c.before.before.before.before.before).0))
-    (omega (arith, c.requires.under_in.1, c.requires.under_in.2)) c.requires.under_in.0 c.requires.t.0 (omega (arith, l, c.requires.t.1)) in
+    (omega (arith, c.requires.under_in.1, c.requires.under_in.2)) c.requires.under_in.0 c.requires.b_below.0 (omega (arith, l, c.requires.b_below.1)) in
     omega (arith, below)
 
 pub loop-x-preserved : goal.loop-x-preserved
@@ -153,4 +153,4 @@ loop-x-smaller c = omega (arith, inside c.before.before.before.before.before.bef
 
 pub with_last-requires : goal.with_last-requires
 with_last-requires c = let l = c.loop-x in
-    record { under_in = c.requires.under_in; t = c.requires.t; x_le_n = (l.invariant.0, omega arith, l.invariant.1, l.invariant.2, l.invariant.3, l.invariant.4) }
+    record { under_in = c.requires.under_in; b_below = c.requires.b_below; x_le_n = (l.invariant.0, omega arith, l.invariant.1, l.invariant.2, l.invariant.3, l.invariant.4) }

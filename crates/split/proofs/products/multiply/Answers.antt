@@ -23,7 +23,7 @@ fill_row-requires c = let a = c.args in
         omega (arith, p2.0, p2.2),
         omega (arith, l.invariant.1, p2.1, room),
       );
-      t = (
+      rows_below = (
         all_below a.rows.now p.0 p.2,
         row_room a.rows.now a.l l.s a.k p.3 (omega arith),
         omega (arith, p.3, rows_room a.l a.k p2.2),

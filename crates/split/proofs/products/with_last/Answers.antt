@@ -24,7 +24,7 @@ inside : (c : At-Then-x-n)
     × (length a.b.now ≤ 2 * max_n))
 inside c = let p = c.requires in
     let more = c.if-x-n.true in
-    (more, omega (arith, more, p.under_in.1), p.under_in.2, omega (arith, more, p.t.1), p.t.2)
+    (more, omega (arith, more, p.under_in.1), p.under_in.2, omega (arith, more, p.b_below.1), p.b_below.2)
 
 -- what a call of `plus_product` asks, for the sum of numbers of b from place k on
 asks : (c : At-After-wide-f) (s k at : ℕ) → (let a = c.args in s ≡ total a.a.now a.i a.b.now k a.x)
@@ -32,8 +32,8 @@ asks : (c : At-After-wide-f) (s k at : ℕ) → (let a = c.args in s ≡ total a
     → (s < 2 ^ 62) × (c.wide-f.result < 2 ^ 24) × (at < length c.args.b.now)
 asks c s k at is l e = let p = c.requires in
     let a = c.args in
-    let room = summed_room a.a.now a.i a.b.now k a.x is a.n p.x_le_n.0 (omega (arith, p.under_in.1, p.under_in.2)) p.under_in.0 p.t.0
-    (omega (arith, l, p.t.1)) in
+    let room = summed_room a.a.now a.i a.b.now k a.x is a.n p.x_le_n.0 (omega (arith, p.under_in.1, p.under_in.2)) p.under_in.0 p.b_below.0
+    (omega (arith, l, p.b_below.1)) in
     let more = inside c.before.before in
     (omega (arith, room), omega (arith, c.wide-f.ensures.value, p.under_in.0.each a.x more.0), omega (arith, l, e, more.3))
 

@@ -16,7 +16,7 @@ use Rattle.split.proofs.sparse.sparse_sums.Goals as goal
 
 -- the place of the coefficient that a turn reads
 pub bounds-c-order : goal.bounds-c-order
-bounds-c-order c = below_at _ c.args.order.now c.requires.t.1 c.loop-m.m (omega arith)
+bounds-c-order c = below_at _ c.args.order.now c.requires.small.1 c.loop-m.m (omega arith)
 
 pub add_multiple-requires : goal.add_multiple-requires
 add_multiple-requires c = let l = c.loop-m in
@@ -25,9 +25,9 @@ add_multiple-requires c = let l = c.loop-m in
     let part : l.m + n - l.m ≡ n = omega arith in
     let row : length (row_at t l.m n) ≡ n = length-take-le n (drop l.m t) (omega (arith, length-drop l.m t, c.requires.order_len_bound.1)) in
     rw part record {
-      row_len = (row ∙ sym l.invariant.size, sums_within l.invariant c.requires.order_len_bound.0, row_below (2 ^ 20) t l.m n c.requires.t.2);
+      row_len = (row ∙ sym l.invariant.size, sums_within l.invariant c.requires.order_len_bound.0, row_below (2 ^ 20) t l.m n c.requires.small.2);
       a_bound = rw (read_same w8 c.args.c.now (get_or c.args.order.now l.m 0) c.add_multiple-arg-in-loop-m-2-1.given)
-          (within-coefficient 1 c.args.c.now (get_or c.args.order.now l.m 0) c.requires.t.0);
+          (within-coefficient 1 c.args.c.now (get_or c.args.order.now l.m 0) c.requires.small.0);
     }
 
 pub loop-m-preserved : goal.loop-m-preserved
@@ -38,7 +38,7 @@ loop-m-preserved c = let l = c.loop-m in
     sums_more l.invariant (omega arith)
     (c.add_multiple.ensures
     ∙ ap₂ (λ (a : ℤ) (k : ℕ). add l.sums (scale a (map pos (row_at c.args.twice.now l.m k)))) read part)
-    c.requires.t.0 c.requires.t.2 c.requires.order_len_bound.1
+    c.requires.small.0 c.requires.small.2 c.requires.order_len_bound.1
 
 pub loop-m-init : goal.loop-m-init
 loop-m-init c = sums_none c.requires.sums_value
