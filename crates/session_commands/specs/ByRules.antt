@@ -17,7 +17,8 @@ use Rattle.session_state.specs.declared.CommandResult.{CommandResult}
 use Rattle.session_state.specs.State.{masks_held, chosen_in, held_in, held_of}
 use Rattle.session_state.specs.Result.{result_in, result_of}
 
--- a slice that a function is lent to write or to read, as its contract has it, and the list in it at entry and at exit; a list that it is not lent stays
+-- a slice that a function is lent to write, and one that it is lent to read, as its contract has them; the list in it at entry and at exit; a list that it
+-- is not lent stays
 abbrev pub Slice : Type 0 → Type 0
 Slice A = Both (MutBor (List A)) (MutBor (List A))
 
