@@ -9,7 +9,7 @@
 void harness_sha512(const uint8_t *message, size_t message_length, uint8_t *out);
 void harness_sha512_of_two(const uint8_t *first, size_t first_length, const uint8_t *second, size_t second_length, uint8_t *out);
 void harness_point(const int16_t *f, size_t f_length, const int8_t *c, size_t c_length, const int16_t *y, size_t y_length, int32_t *z, size_t z_length);
-/* the index of the first number outside -bound..bound, or the length where none is outside; the bound is below 32,768 */
+/* the index of the first number outside -bound..bound, or the length where none is outside */
 size_t harness_first_outside(const int32_t *z, size_t z_length, uint32_t bound);
 size_t harness_first_outside16(const int16_t *values, size_t values_length, uint32_t bound);
 /* the plain evaluator at any exponents, each result in signed form */

@@ -58,7 +58,12 @@ def exported(code):
 
 
 def in_capitals(name):
-    return re.sub(r"[A-Z]", lambda letter: "_" + letter.group(), name).upper()
+    """A name of the definitions or a case of an enum, as C has it."""
+    return re.sub(r"(?<!^)[A-Z]", lambda letter: "_" + letter.group(), name).upper()
+
+
+# a case of an enum with its number
+CASE = r"^    (\w+) = (\d+),$"
 
 
 def numbers_in(path, pattern):
@@ -77,16 +82,17 @@ def agree(what, definitions, code, in_header):
 def refusals_agree():
     """The header has those of the library."""
     definitions = numbers_in("crates/refusal/specs/Numbers.antt", r"^(\w+) = (\d+)$")
-    code = numbers_in("crates/refusal/src/lib.rt", r"pub const (\w+): u32 = (\d+);")
-    return agree("refusal numbers", {in_capitals(name): number for name, number in definitions.items()}, code, 10)
+    code = numbers_in("crates/refusal/src/lib.rt", CASE)
+    return agree("refusal numbers", *({in_capitals(name): number for name, number in found.items()} for found in (definitions, code)), 10)
 
 
 def rules_agree():
-    """low_byte_rule of the definitions is RULE_LOW_BYTE of the code, three_byte_rule is RULE_THREE_BYTES."""
+    """low_byte_rule of the definitions is LowByte of the code and RULE_LOW_BYTE of the header, three_byte_rule is ThreeBytes and RULE_THREE_BYTES."""
     definitions = numbers_in("crates/challenge/specs/Pool.antt", r"^(\w+)_rule = (\d+)$")
-    code = numbers_in("crates/challenge/src/lib.rt", r"pub const (RULE_\w+): u8 = (\d+);")
+    code = numbers_in("crates/challenge/src/lib.rt", CASE)
     names = {"low_byte": "RULE_LOW_BYTE", "three_byte": "RULE_THREE_BYTES"}
-    return agree("rules", {names.get(name, name): number for name, number in definitions.items()}, code, 2)
+    named = {names.get(name, name): number for name, number in definitions.items()}
+    return agree("rules", named, {"RULE_" + in_capitals(name): number for name, number in code.items()}, 2)
 
 
 # ── What the header gives a compiler ────────────────────────────────────────────────────────────

@@ -17,6 +17,7 @@ use lib.Seq.{get_or-set_same, get_or-set_other, take-set-lt}
 use mir.Syntax.{w8}
 use mir.Val.{to_z, of_z}
 use mir.Facts.{to_z-of_z}
+use Rattle.std.specs.Bool.{then_some}
 use Rattle.algebra.proofs.List.{take-replicate}
 use Rattle.algebra.proofs.Test.{cond_by, by_test}
 use Rattle.algebra.proofs.Signed.{fits_signed}
@@ -97,11 +98,6 @@ pub placed_more : (p : Params) (bytes : List ℕ) (j : ℕ) (js : List ℕ)
 unfolding placed
 placed_more p bytes j js = signed_more bytes 0 j js (replicate p.n (pos 0)) ∙ rw zero-add
 
--- each index has a place
-
-pub index_small : (v : ℕ) {n : ℕ} → 0 < n → n ≤ max_n → v % n < max_n
-index_small v h l = omega (arith, mod-lt v h)
-
 -- the index of a value that is not skipped is one of the N, whatever N is
 pub index_below : (v n : ℕ) → v < n * (65536 / n) → v % n < n
 index_below v zero h = absurd (omega (arith, zero-mul (65536 / 0)))
@@ -128,15 +124,11 @@ held_none p bytes h = record {
 module _ (p : Params) (bytes : List ℕ) (m : ℕ) {marks : List Bool} {challenge : List ℤ} {count : ℕ}
     (s : Held p bytes (kept p bytes m) marks challenge count) where
   -- the loop ends where b indices are kept or no value is left
-  pub held_all : m ≤ value_count bytes → (p.b ≤ count) ⊎ (value_count bytes ≤ m)
-      → drawn_of p (record { complete = eqb count p.b; challenge = challenge }) ≡ draw p bytes
+  pub held_all : m ≤ value_count bytes → (p.b ≤ count) ⊎ (value_count bytes ≤ m) → drawn_of p (then_some (eqb count p.b) challenge) ≡ draw p bytes
   unfolding draw
   held_all h left =
-      rw (
-        kept_rest p bytes m (value_count bytes) h (⊎_elim (λ (q : p.b ≤ count). inl (omega (arith, s.counted))) inr left),
-        s.front,
-        s.counted,
-      )
+      let e = kept_rest p bytes m (value_count bytes) h (⊎_elim (λ (q : p.b ≤ count). inl (omega (arith, s.counted))) inr left) in
+      rw (e, ← s.counted) (by_test (eqb count p.b) (λ t. rw (t, s.front)) (λ t. rw t))
 
   module _ (v : ℕ) (e : v ≡ value_at bytes m) where
     kept_next : kept p bytes (m + 1) ≡ with_value p v (kept p bytes m)

@@ -1,9 +1,10 @@
 -- Document 01, "Hash and challenge": the drawer. A pool is a list of bytes.
 -- Assumes nothing.
 use Rattle.std.specs.Prelude.{Bool, false, ◌||◌, cond, List, [], ◌∷◌, ◌++◌, ℕ, zero, suc, ◌+◌, ◌-◌, ◌*◌, ◌/◌, ◌%◌, ◌^◌, leb, eqb, ℤ, pos, negsuc, length, get_or, set, take, replicate}
+use Rattle.std.specs.Prelude.{Some, None}
+use Rattle.std.specs.declared.option.Option as answer
 use Rattle.std.proofs.Math.Option.{Option, none, some}
 use Rattle.parameters.specs.declared.Params.{Params}
-use Rattle.challenge.specs.declared.Drawn.{Drawn}
 use Rattle.challenge.specs.Pool.{pool}
 
 -- sign i is bit (i mod 8), least significant as bit 0, of byte i/8 rounded down: 0 means +1 and 1 means -1
@@ -58,5 +59,6 @@ unfoldable pub draw_challenge : ℕ → Params → List ℕ → List ℕ → Opt
 draw_challenge rule p w message = draw p (pool rule w message)
 
 -- what the drawer's answer says: its first N coefficients, or that the pool is spent
-abbrev pub drawn_of : Params → Drawn → Option (List ℤ)
-drawn_of p d = cond d.complete (some (take p.n d.challenge)) none
+abbrev pub drawn_of : Params → answer.Option (List ℤ) → Option (List ℤ)
+drawn_of p None = none
+drawn_of p (Some c) = some (take p.n c)

@@ -1,3 +1,4 @@
-pub mod Pool
-pub mod Draw
 pub mod Asks
+pub mod Pool
+pub mod Rules
+pub mod Draw

@@ -12,7 +12,7 @@ use Rattle.challenge.specs.Pool.{is_rule}
 use Rattle.encoding.specs.Challenge.{are_entries}
 use Rattle.encoding.specs.Encoding.{public_key_size, signature_size, are_exponents, are_evaluations, exponents_of, evaluations_of, entries_in, entries_read}
 use Rattle.refusal.proofs.Answering.{both_equal}
-use Rattle.refusal.proofs.Refusal.{step, end}
+use Rattle.refusal.proofs.Chain.{step, end}
 use Rattle.checking.specs.Check.{check_lengths, check_refusal_of, check_refusal_in}
 
 -- what was read is not refused

@@ -1,7 +1,5 @@
-pub mod Stated
 pub mod Allowed
 pub mod Guard
 pub mod Encoded
 pub mod Recovery
 pub mod Comparison
-pub mod Verdict

@@ -8,8 +8,8 @@ use Rattle.challenge.specs.Pool.{is_rule}
 use Rattle.encoding.specs.Challenge.{are_entries, challenge_of}
 use Rattle.encoding.specs.Encoding.{public_key_size, signature_size, are_exponents, are_evaluations, exponents_of, evaluations_of, entries_in, z_in}
 use Rattle.scheme.specs.Scheme.{Drawer, Drawers, Signature, verdict}
-use Rattle.refusal.specs.declared.Verdict.{Verdict}
-use Rattle.refusal.specs.declared.Verdict.TheVariants as answer
+use Rattle.refusal.specs.Verdict.{Verdict}
+use Rattle.refusal.specs.Verdict as answer
 use Rattle.refusal.specs.Answer.{set_byte, set_in, is_long, in_set_of, Stated, stated}
 use Rattle.refusal.specs.Numbers.{wrong_length, wrong_set, wrong_rule, wrong_exponents, wrong_evaluation, wrong_entries}
 

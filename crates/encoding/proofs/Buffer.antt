@@ -2,10 +2,10 @@
 -- Assumes nothing.
 use mathlib.Core.Path.{◌≡◌, refl, ap, ap₂, ◌∙◌}
 use mathlib.Core.List.{List, [], ◌∷◌, ◌++◌, append-nil}
-use Prim.Native.Nat.{ℕ, ◌+◌, ◌-◌, ◌<◌}
+use Prim.Native.Nat.{ℕ, ◌+◌, ◌-◌, ◌<◌, ◌≤◌}
 use native.Mathlib.Omega.{arith}
-use lib.ListN.{length, take, drop, set, length-append, length-drop, drop_of_length-le}
-use lib.Seq.{length-take-le, take_at, drop_at}
+use lib.ListN.{length, drop, set, length-append, drop_of_length-le}
+use lib.Seq.{take_at, drop_at}
 use borrow.Rule.Slice.PartMut.{put_mid}
 
 -- v in place of all behind the first n elements, which are l
@@ -20,30 +20,15 @@ front_put : (out u : List ℕ) (s m : ℕ) → 0 < length out → put_mid 1 m (s
 front_put [] u s m h = absurd (omega arith)
 front_put (x ∷ out) u s m h = refl
 
-module _ (out u : List ℕ) (s n k : ℕ) (room : length out ≡ 1 + n + k) (size : length u ≡ n) where
-  -- the byte s and the n bytes u are written
-  abbrev pub begun : List ℕ
-  begun = put_mid 1 (1 + n - 1) (set out 0 s) u
+-- the byte s in front, the n bytes u after it, and v in place of the rest
+pub whole : (out u v : List ℕ) (s n : ℕ) → 1 + n ≤ length out → length u ≡ n
+    → let begun = put_mid 1 (1 + n - 1) (set out 0 s) u in put_mid (1 + n) (length begun - (1 + n)) begun v ≡ s ∷ (u ++ v)
+whole out u v s n room size =
+    let rest = drop (1 + n - 1) (drop 1 out) in
+    ap (λ (l : List ℕ). put_mid (1 + n) (length l - (1 + n)) l v) (front_put out u s (1 + n - 1) (omega arith)) ∙ end_put (s ∷ u) rest (1 + n) (omega arith) v
 
-  rest : List ℕ
-  rest = drop (1 + n - 1) (drop 1 out)
-
-  begun_is : begun ≡ (s ∷ u) ++ rest
-  unfolding rest
-  begun_is = front_put out u s (1 + n - 1) (omega arith)
-
-  pub begun-length : length begun ≡ 1 + n + k
-  unfolding rest
-  begun-length =
-      ap length begun_is ∙ length-append (s ∷ u) rest ∙ omega (arith, length-drop (1 + n - 1) (drop 1 out), length-drop 1 out)
-
-  -- there are k bytes left
-  pub end_length : length (take (length begun - (1 + n)) (drop (1 + n) begun)) ≡ k
-  end_length =
-      let l = length-drop (1 + n) begun in
-      length-take-le (length begun - (1 + n)) (drop (1 + n) begun) (omega arith) ∙ omega (arith, begun-length)
-
-  -- and v in their place
-  pub whole : (v : List ℕ) → put_mid (1 + n) (length begun - (1 + n)) begun v ≡ s ∷ (u ++ v)
-  whole v =
-      ap (λ (l : List ℕ). put_mid (1 + n) (length l - (1 + n)) l v) begun_is ∙ end_put (s ∷ u) rest (1 + n) (omega arith) v
+-- the byte s in front, and v in place of the rest
+pub headed : (out v : List ℕ) (s : ℕ) → 0 < length out → put_mid 1 (length (set out 0 s) - 1) (set out 0 s) v ≡ s ∷ v
+headed [] v s h = absurd (omega arith)
+headed (x ∷ out) v s h =
+    ap (λ (l : List ℕ). s ∷ (v ++ l)) (drop_of_length-le out {i = length (s ∷ out) - 1} (omega arith)) ∙ ap (λ (l : List ℕ). s ∷ l) (append-nil v)

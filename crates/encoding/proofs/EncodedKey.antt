@@ -3,34 +3,23 @@
 use mathlib.Core.Path.{◌≡◌, sym, ◌∙◌}
 use mathlib.Core.Bool.{true, true≢false}
 use mathlib.Core.List.{List}
-use Prim.Native.Nat.{ℕ, ◌^◌, ◌<◌}
+use Prim.Native.Nat.{ℕ, ◌<◌}
 use native.Mathlib.Omega.{arith}
 use lib.Dec.{T, eqb, leb, le→leb}
-use lib.IntN.{ℤ, negsuc, nat_abs}
+use lib.IntN.{ℤ, nat_abs}
 use lib.ListN.{length, drop, length-map, length-drop}
-use mir.Syntax.{Width}
-use mir.Val.{to_z, hbits}
-use mir.Facts.{to_z_pos}
-use borrow.Author.Tests.{eqb-true, eqb-false, eq-eqb, ne_eqb}
+use borrow.Author.Tests.{eqb-true, eqb-false, ne_eqb}
 use Rattle.algebra.proofs.All.{all-map}
 use Rattle.algebra.proofs.Test.{true_holds, holds_true, by_test}
 use Rattle.parameters.specs.declared.Params.{Params}
 use Rattle.polynomial.specs.Polynomial.{ternary}
 use Rattle.encoding.specs.Encoding.{secret_key_size, is_key_byte, key_coefficient, is_key, key_of}
 
--- 255 is -1, and any other byte itself where a width has room for it
-module _ (x : ℕ) where
-  pub key_minus : x ≡ 255 → negsuc 0 ≡ key_coefficient x
-  key_minus e = rw (eq-eqb x 255 e)
-
-  pub key_natural : (w : Width) → (x ≡ 255 → ⊥) → x < 2 ^ hbits w → to_z w x ≡ key_coefficient x
-  key_natural w n h = to_z_pos w {n = x} h ∙ rw (ne_eqb x 255 n)
-
-  -- a key's byte that is not 255 is 0 or 1
-  pub key_low : is_key_byte x ≡ true → (x ≡ 255 → ⊥) → x < 2
-  key_low t n =
-      by_test (eqb x 0) (λ z. omega (arith, eqb-true x 0 z))
-      (λ z. by_test (eqb x 1) (λ o. omega (arith, eqb-true x 1 o)) (λ o. absurd (true≢false (sym (rw (z, o, ne_eqb x 255 n) at t)))))
+-- a key's byte that is not 255 is 0 or 1
+key_low : (x : ℕ) → is_key_byte x ≡ true → (x ≡ 255 → ⊥) → x < 2
+key_low x t n =
+    by_test (eqb x 0) (λ z. omega (arith, eqb-true x 0 z))
+    (λ z. by_test (eqb x 1) (λ o. omega (arith, eqb-true x 1 o)) (λ o. absurd (true≢false (sym (rw (z, o, ne_eqb x 255 n) at t)))))
 
 key_byte_lem : (x : ℕ) → T (is_key_byte x) → T (leb (nat_abs (key_coefficient x)) 1)
 key_byte_lem x t =

@@ -2,16 +2,15 @@
 -- Assumes nothing.
 use mathlib.Core.Path.{◌≡◌, refl, sym, ap, ◌∙◌}
 use mathlib.Core.Bool.{Bool, true, false, cond}
-use mathlib.Core.List.{List, [], ◌∷◌, ◌++◌, append-nil}
-use Prim.Native.Nat.{ℕ, zero, suc, ◌+◌, ◌-◌, ◌≤◌, ◌<◌}
+use mathlib.Core.List.{List, [], ◌∷◌, ◌++◌}
+use Prim.Native.Nat.{ℕ, suc, ◌+◌, ◌-◌, ◌<◌}
 use native.Mathlib.Numerals.{add-one}
 use native.Mathlib.Omega.{arith}
 use lib.Dec.{ltb, eqb}
 use lib.IntN.{ℤ, pos, negsuc}
-use lib.ListN.{length, get_or, take, drop, set, length-append, drop_of_length-le}
-use lib.Seq.{drop-cons, drop-drop, take-suc-set, append_snoc, length-take-le, take_all}
-use borrow.Author.Tests.{eq-eqb, ne_eqb}
-use Rattle.encoding.specs.Challenge.{index_of, coefficient_of, coefficient_at, coefficients_from, entry_of, entries_from}
+use lib.ListN.{length, take, drop, set}
+use lib.Seq.{drop-drop, take-suc-set, append_snoc}
+use Rattle.encoding.specs.Challenge.{index_of, coefficient_of, coefficient_at, coefficients_from, entries_from}
 
 -- ---- reading: the next coefficient, and what is left of the entries
 
@@ -39,23 +38,9 @@ module _ (i n : ℕ) where
   coefficients_kept (e ∷ es) h =
       kept (eqb (index_of e) i) (coefficient_of e) (coefficients_from (suc i) n es) (coefficients_from (suc i) n (e ∷ es)) (not_zero (ltb e 32768)) h
 
--- the next coefficient where k entries are used
-module _ (es : List ℕ) (k i : ℕ) where
-  pub at_entry : k < length es → index_of (get_or es k 0) ≡ i → coefficient_of (get_or es k 0) ≡ coefficient_at i (drop k es)
-  at_entry h e = rw (drop-cons es k 0 h) (rw (eq-eqb (index_of (get_or es k 0)) i e))
-
-  pub at_none : k < length es → (index_of (get_or es k 0) ≡ i → ⊥) → pos 0 ≡ coefficient_at i (drop k es)
-  at_none h e = rw (drop-cons es k 0 h) (rw (ne_eqb (index_of (get_or es k 0)) i e))
-
-  pub at_end : length es ≤ k → pos 0 ≡ coefficient_at i (drop k es)
-  at_end h = rw (drop_of_length-le es h)
-
 -- c has the coefficients below i, and k entries are used
 abbrev pub Read : List ℕ → ℕ → List ℤ → ℕ → ℕ → Type 0
 Read es n c k i = coefficients_from 0 n es ≡ take i c ++ coefficients_from i (n - i) (drop k es)
-
-pub read_none : (es : List ℕ) (n : ℕ) (c : List ℤ) → Read es n c 0 0
-read_none es n c = let e : n ≡ n - 0 = omega arith in ap (λ (x : ℕ). coefficients_from 0 x es) e
 
 module _ (es : List ℕ) (n : ℕ) (c : List ℤ) (k i : ℕ) (l : length c ≡ n) (h : i < length c) {a : ℤ}
     (e : a ≡ coefficient_at i (drop k es)) (s : Read es n c k i) where
@@ -80,50 +65,8 @@ module _ (es : List ℕ) (n : ℕ) (c : List ℤ) (k i : ℕ) (l : length c ≡ 
       stored (drop k es)
       (coefficients_kept i (n - (i + 1)) (drop k es) (sym e ∙ z) ∙ ap (λ (y : ℤ). y ∷ coefficients_from (suc i) (n - (i + 1)) (drop k es)) (sym z))
 
-pub read_all : (es : List ℕ) (n : ℕ) (c : List ℤ) (k i : ℕ) → length c ≡ n → i ≡ n → Read es n c k i → c ≡ coefficients_from 0 n es
-read_all es n c k i l e s =
-    let m : n - i ≡ 0 = omega arith in
-    sym (s ∙ ap (λ (x : ℕ). take i c ++ coefficients_from i x (drop k es)) m ∙ append-nil (take i c) ∙ take_all i c (omega arith))
-
--- ---- writing: a coefficient that is not 0 adds its entry
-
-entries_put : (i : ℕ) (a : ℤ) (c : List ℤ) → (a ≡ pos 0 → ⊥) → entries_from i (a ∷ c) ≡ entry_of i a ∷ entries_from (suc i) c
-entries_put i (pos zero) c h = absurd (h refl)
-entries_put i (pos (suc a)) c h = refl
-entries_put i (negsuc a) c h = refl
+-- ---- writing
 
 -- the first k entries are those of the coefficients below i
 abbrev pub Put : List ℤ → List ℕ → ℕ → ℕ → Type 0
 Put c es k i = entries_from 0 c ≡ take k es ++ entries_from i (drop i c)
-
-module _ (c : List ℤ) (es : List ℕ) (k i : ℕ) (h : i < length c) (b : k ≤ length es) (p : Put c es k i) where
-  -- what is left of the challenge, its next coefficient in front
-  rest : entries_from i (drop i c) ≡ entries_from i (get_or c i (pos 0) ∷ drop (i + 1) c)
-  rest = ap (entries_from i) (drop-cons c i (pos 0) h ∙ ap (λ (m : ℕ). get_or c i (pos 0) ∷ drop m c) (sym (add-one i)))
-
-  pub put_kept : get_or c i (pos 0) ≡ pos 0 → Put c es k (i + 1)
-  put_kept z = p ∙ ap (λ (x : List ℕ). take k es ++ x)
-      (rest ∙ ap (λ (a : ℤ). entries_from i (a ∷ drop (i + 1) c)) z ∙ ap (λ (m : ℕ). entries_from m (drop (i + 1) c)) (sym (add-one i)))
-
-  module _ (z : get_or c i (pos 0) ≡ pos 0 → ⊥) where
-    next : entries_from 0 c ≡ take k es ++ (entry_of i (get_or c i (pos 0)) ∷ entries_from (i + 1) (drop (i + 1) c))
-    next = p ∙ ap (λ (x : List ℕ). take k es ++ x)
-        (rest ∙ entries_put i (get_or c i (pos 0)) (drop (i + 1) c) z
-        ∙ ap (λ (m : ℕ). entry_of i (get_or c i (pos 0)) ∷ entries_from m (drop (i + 1) c)) (sym (add-one i)))
-
-    -- there is room for an entry
-    pub put_room : length es ≡ length (entries_from 0 c) → k < length es
-    put_room l =
-        let rest = entry_of i (get_or c i (pos 0)) ∷ entries_from (i + 1) (drop (i + 1) c) in
-        omega (arith, l ∙ ap length next ∙ length-append (take k es) rest, length-take-le k es b)
-
-    pub put_more : {v : ℕ} → k < length es → v ≡ entry_of i (get_or c i (pos 0)) → Put c (set es k v) (k + 1) (i + 1)
-    put_more {v} r e =
-        next ∙ sym (append_snoc (take k es) (entry_of i (get_or c i (pos 0))) (entries_from (i + 1) (drop (i + 1) c)))
-        ∙ ap (λ (x : ℕ). take k es ++ (x ∷ []) ++ entries_from (i + 1) (drop (i + 1) c)) (sym e)
-        ∙ ap (λ (x : List ℕ). x ++ entries_from (i + 1) (drop (i + 1) c)) (sym (take-suc-set es k v r) ∙ ap (λ (m : ℕ). take m (set es k v)) (sym (add-one k)))
-
-pub put_all : (c : List ℤ) (es : List ℕ) (k i : ℕ) → length c ≤ i → k ≤ length es → length es ≡ length (entries_from 0 c) → Put c es k i → es ≡ entries_from 0 c
-put_all c es k i h b l p =
-    let e : entries_from 0 c ≡ take k es = p ∙ ap (λ (x : List ℤ). take k es ++ entries_from i x) (drop_of_length-le c h) ∙ append-nil (take k es) in
-    sym (e ∙ take_all k es (omega (arith, l ∙ ap length e, length-take-le k es b)))

@@ -12,7 +12,6 @@ use lib.IntN.{ℤ, pos, negsuc}
 use lib.ListN.{length, get_or, take, drop, length-drop, take-append-drop}
 use lib.Seq.{take-suc, take-add, take_at, drop_at, take_all}
 use lib.Signed.{mag}
-use borrow.Author.Tests.{lt-ltb, le-ltb}
 use Rattle.algebra.specs.All.{all, are_below}
 use Rattle.algebra.proofs.All.{all-drop, below_at}
 use Rattle.algebra.proofs.Test.{and_left, and_right, and_intro, by_test}
@@ -111,12 +110,6 @@ module _ (u m w k : ℕ) where
       ∙ take-append-drop (u * m) xs
 
 -- ---- signed numbers
-
-pub signed_of_bits : (z : ℤ) → T (ltb (mag z) 32768) → signed16 (bits16 z) ≡ z
-signed_of_bits (pos n) t = rw (lt-ltb n 32768 (ltb→lt n 32768 t))
-signed_of_bits (negsuc n) t =
-    let h : n < 32768 = ltb→lt n 32768 t in
-    rw (le-ltb (65535 - n) 32768 (omega arith)) (ap negsuc (omega arith))
 
 pub bits_of_signed : (v : ℕ) → T (ltb v 65536) → bits16 (signed16 v) ≡ v
 bits_of_signed v t =

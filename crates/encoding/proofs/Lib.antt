@@ -1,9 +1,9 @@
-pub mod Reading
 pub mod Writing
 pub mod Sign
 pub mod Testing
 pub mod Range
 pub mod Entries
+pub mod Lists
 pub mod Inverse
 pub mod EntriesInverse
 pub mod EntryCount

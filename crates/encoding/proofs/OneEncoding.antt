@@ -22,6 +22,7 @@ use Rattle.encoding.specs.Encoding.{secret_key_size, is_key_byte, key_coefficien
 use Rattle.encoding.specs.Encoding.{public_key_size, public_key, PublicKeyRange, exponents_of, evaluations_of}
 use Rattle.encoding.specs.Encoding.{signature_size, signature_bytes, SignatureRange, entries_read, z_read}
 use Rattle.encoding.proofs.Writing.{length-encoded}
+use Rattle.encoding.specs.Signed.{signed_of_bits}
 use Rattle.encoding.proofs.Inverse as inverse
 use Rattle.encoding.proofs.EntriesInverse as entries-inverse
 
@@ -103,7 +104,7 @@ module _ (p : Params) (s : ℕ) (entries : List ℕ) (z : List ℤ) (r : Signatu
       let small : ℤ → Bool = λ (y : ℤ). ltb (mag y) 32768 in
       let b : T (are_below 65536 (map bits16 z)) = all-map bits16 small (λ (v : ℕ). ltb v 65536) inverse.bits_below z r.z_signed in
       ap (map signed16) (inverse.read_second 2 p.b 2 p.n entries (map bits16 z) r.entries_length (length-map z bits16 ∙ r.z_length) b)
-      ∙ inverse.map_back bits16 signed16 small inverse.signed_of_bits z r.z_signed
+      ∙ inverse.map_back bits16 signed16 small signed_of_bits z r.z_signed
 
   pub signature_length : length (signature_bytes s entries z) ≡ signature_size p
   unfolding signature_bytes

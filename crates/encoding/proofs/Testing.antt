@@ -1,30 +1,13 @@
--- The test of increasing numbers as a loop makes it, one number a turn, with what holds so far as one bool; and what the test shows.
+-- What the test of increasing numbers shows.
 -- Assumes nothing.
-use mathlib.Core.Path.{◌≡◌, sym, ap, ap₂, ◌∙◌}
-use mathlib.Core.Bool.{Bool, ◌&&◌, and_assoc, and-true}
 use mathlib.Core.List.{List, [], ◌∷◌}
-use Prim.Native.Nat.{ℕ, zero, suc, ◌+◌, ◌≤◌, ◌<◌}
+use Prim.Native.Nat.{ℕ, zero, suc, ◌≤◌, ◌<◌}
 use native.Mathlib.Nat.{le_of_suc-le-suc, not-suc-le-zero}
-use native.Mathlib.Numerals.{add-one}
 use native.Mathlib.Omega.{arith}
 use lib.Dec.{T, ltb, leb, ltb→lt, leb→le}
-use lib.ListN.{length, get_or, drop, drop_of_length-le}
-use lib.Seq.{drop-cons}
+use lib.ListN.{length, get_or}
 use Rattle.algebra.proofs.Test.{and_left, and_right}
 use Rattle.encoding.specs.Bytes.{increasing}
-
--- numbers strictly increasing, where `from` is the bound that each number sets for the next
-module _ (n : ℕ) (vs : List ℕ) where
-  pub increasing_step : (from i : ℕ) (ok : Bool) {v : ℕ} {result t : Bool} → i < length vs → result ≡ (ok && increasing n from (drop i vs)) → v ≡ get_or vs i 0
-      → t ≡ (leb from v && ltb v n) → result ≡ ((ok && t) && increasing n (v + 1) (drop (i + 1) vs))
-  increasing_step from i ok {v} {result} {t} h e q g =
-      let rest : Bool = increasing n (suc v) (drop (i + 1) vs) in
-      e ∙ ap (λ (l : List ℕ). ok && increasing n from l) (drop-cons vs i 0 h ∙ ap₂ (λ (x k : ℕ). x ∷ drop k vs) (sym q) (sym (add-one i)))
-      ∙ ap (λ (b : Bool). ok && b) (sym (and_assoc (leb from v) (ltb v n) rest)) ∙ sym (and_assoc ok (leb from v && ltb v n) rest)
-      ∙ ap₂ (λ (b : Bool) (k : ℕ). (ok && b) && increasing n k (drop (i + 1) vs)) (sym g) (sym (add-one v))
-
-  pub increasing_done : (from i : ℕ) {result ok : Bool} → length vs ≤ i → result ≡ (ok && increasing n from (drop i vs)) → ok ≡ result
-  increasing_done from i {result} {ok} h e = sym (e ∙ ap (λ (l : List ℕ). ok && increasing n from l) (drop_of_length-le vs h) ∙ and-true ok)
 
 -- each is below n
 pub increasing_below : (n from : ℕ) (vs : List ℕ) → T (increasing n from vs) → (i : ℕ) → i < length vs → get_or vs i 0 < n

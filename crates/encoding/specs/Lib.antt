@@ -1,3 +1,4 @@
 pub mod Bytes
+pub mod Signed
 pub mod Challenge
 pub mod Encoding

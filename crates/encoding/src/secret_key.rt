@@ -11,67 +11,46 @@ fn is_key_byte(x: u8) -> bool
     (x == 0) | ((x == 1) | (x == 255))
 }
 
-// Whether each byte is one of a key.
+// Whether each byte is one of a key: every byte is looked at, as in the tests of `numbers`.
 pub fn are_key_bytes(bytes: &[u8]) -> bool
     ensures { result ≡ are_key_bytes bytes.now }
 {
     let mut ok = true;
-    let mut i: usize = 0;
-    while i < bytes.len() {
-        ok = ok & is_key_byte(bytes[i]);
-        i += 1;
+    for byte in bytes {
+        ok = ok & is_key_byte(*byte);
     }
     ok
 }
 
-// The coefficient of a byte, in 16 bits and, of a key's byte, in 8.
-fn key_coefficient16(x: u8) -> i16
+// The coefficient of a byte.
+fn key_coefficient(x: u8) -> i16
     ensures { result ≡ key_coefficient x }
 {
-    if x == 255 { -1 } else { x as i16 }
+    if x == 255 { -1 } else { i16::from(x) }
 }
 
-fn key_coefficient8(x: u8) -> i8
-    requires { is_key_byte x ≡ true }
-    ensures { result ≡ key_coefficient x }
-{
-    if x == 255 { -1 } else { x as i8 }
-}
-
-// Reads a key.
-pub fn read_key16(body: &[u8], out: &mut [i16])
-    requires { length out.old ≡ length body.now }
-    ensures { out.new ≡ key_in body.now }
-{
-    let mut i: usize = 0;
-    while i < body.len() {
-        out[i] = key_coefficient16(body[i]);
-        i += 1;
-    }
-}
-
-// Reads a key whose bytes are allowed.
+// Reads a key whose bytes are allowed: each is its coefficient in two's complement.
 pub fn read_key8(body: &[u8], out: &mut [i8])
     requires out_len { length out.old ≡ length body.now }
     requires body_value { are_key_bytes body.now ≡ true }
     ensures { out.new ≡ key_in body.now }
 {
-    let mut i: usize = 0;
-    while i < body.len() {
-        out[i] = key_coefficient8(body[i]);
-        i += 1;
+    for i in 0..body.len() {
+        out[i] = body[i].cast_signed();
     }
 }
 
-// Decodes what follows the set byte: N coefficients, in front.
+// Decodes what follows the set byte: N coefficients, in front of an array of the largest size, as there is no heap here; of 16 bits, as the evaluators and
+// the product take them.
 pub fn decode_secret_key(p: Params, body: &[u8]) -> [i16; MAX_N]
     requires limited { Limited p }
     requires body_len { length body.now ≡ p.n }
     ensures { take p.n result ≡ key_in body.now }
 {
-    let n = p.n;
     let mut f = [0i16; MAX_N];
-    read_key16(body, &mut f[..n]);
+    for i in 0..p.n {
+        f[i] = key_coefficient(body[i]);
+    }
     f
 }
 
@@ -79,7 +58,7 @@ pub fn decode_secret_key(p: Params, body: &[u8]) -> [i16; MAX_N]
 fn key_byte(a: i8) -> u8
     ensures { result ≡ key_byte a }
 {
-    if a < 0 { 255 } else { a as u8 }
+    if a < 0 { 255 } else { a.cast_unsigned() }
 }
 
 // Writes a key's bytes.
@@ -87,14 +66,13 @@ fn write_key(f: &[i8], out: &mut [u8])
     requires { length out.old ≡ length f.now }
     ensures { out.new ≡ map key_byte f.now }
 {
-    let mut i: usize = 0;
-    while i < f.len() {
+    for i in 0..f.len() {
         out[i] = key_byte(f[i]);
-        i += 1;
     }
 }
 
 // Writes the set byte and the key's bytes.
+#[tactic(auto, using(crate::proofs::Buffer::headed), unfolding(crate::specs::Encoding::secret_key))]
 pub fn put_secret_key(set: u8, f: &[i8], out: &mut [u8])
     requires { length out.old ≡ 1 + length f.now }
     ensures { out.new ≡ secret_key set f.now }

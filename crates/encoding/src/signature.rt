@@ -1,23 +1,41 @@
 // A signature: a challenge as entries, an index in the low 15 bits, top bit 1 for -1, and the point z, tested, decoded and written.
 ghost use Rattle.std.specs.Prelude.{◌≡◌, ◌+◌, ◌*◌, ◌<◌, ◌≤◌, length, take, drop};
+ghost use Rattle.parameters.specs.Limits.{max_b, max_n};
 ghost use Rattle.parameters.specs.Sound.{Limited};
 ghost use Rattle.encoding.specs.Challenge.{index_of, coefficient_of, coefficient_at, entry_of, are_entries, challenge_of, entries_of};
 ghost use Rattle.encoding.specs.Encoding.{entries_in, z_in, signature_bytes, signature_size};
 
-use crate::numbers::{is_next, read_numbers16, read_signed16, write_numbers16, write_signed16};
+use crate::numbers::{is_next, read_list, write_list};
 use parameters::{MAX_B, MAX_N, Params};
 
-// What a signature holds, each list in front: b challenge entries and the N coefficients of z.
+// What a signature holds: b challenge entries and the N coefficients of z, each list in front of an array, since the libraries have no heap.
 #[derive(Drop)]
 pub struct Signature {
+    pub b: usize,
+    pub n: usize,
     pub entries: [u16; MAX_B],
     pub z: [i16; MAX_N],
+    ghost room: { (b ≤ max_b) × (n ≤ max_n) },
+}
+
+impl Signature {
+    pub fn entries(&self) -> &[u16]
+        ensures { result.now ≡ take self.now.b self.now.entries }
+    {
+        &self.entries[..self.b]
+    }
+
+    pub fn z(&self) -> &[i16]
+        ensures { result.now ≡ take self.now.n self.now.z }
+    {
+        &self.z[..self.n]
+    }
 }
 
 fn entry_index(entry: u16) -> usize
     ensures { result ≡ index_of entry }
 {
-    (entry % 32768) as usize
+    usize::from(entry % 32768)
 }
 
 fn entry_coefficient(entry: u16) -> i8
@@ -32,12 +50,10 @@ pub fn are_entries_of(entries: &[u16], n: usize) -> bool
 {
     let mut ok = true;
     let mut from: usize = 0;
-    let mut k: usize = 0;
-    while k < entries.len() {
-        let index = entry_index(entries[k]);
+    for entry in entries {
+        let index = entry_index(*entry);
         ok = ok & is_next(from, index, n);
         from = index + 1;
-        k += 1;
     }
     ok
 }
@@ -46,28 +62,24 @@ pub fn are_entries_of(entries: &[u16], n: usize) -> bool
 fn coefficient_at(entries: &[u16], k: usize, i: usize) -> i8
     ensures { result ≡ coefficient_at i (drop k entries.now) }
 {
-    if k < entries.len() {
-        let entry = entries[k];
-        if entry_index(entry) == i {
-            return entry_coefficient(entry);
-        }
+    match entries.get(k) {
+        Some(&entry) if entry_index(entry) == i => entry_coefficient(entry),
+        _ => 0,
     }
-    0
 }
 
-// Writes the challenge with these entries.
+// Writes the challenge with these entries. By an index into them: what it promises holds of any entries, also where they do not increase.
+#[tactic(auto, using(crate::proofs::Entries::read_used, crate::proofs::Entries::read_kept))]
 pub fn read_challenge(entries: &[u16], c: &mut [i8])
     ensures { c.new ≡ challenge_of (length c.old) entries.now }
 {
     let mut k: usize = 0;
-    let mut i: usize = 0;
-    while i < c.len() {
+    for i in 0..c.len() {
         let a = coefficient_at(entries, k, i);
         c[i] = a;
         if a != 0 {
             k += 1;
         }
-        i += 1;
     }
 }
 
@@ -86,14 +98,12 @@ pub fn write_entries(c: &[i8], entries: &mut [u16])
     ensures { entries.new ≡ entries_of c.now }
 {
     let mut k: usize = 0;
-    let mut i: usize = 0;
-    while i < c.len() {
+    for i in 0..c.len() {
         let a = c[i];
         if a != 0 {
             entries[k] = entry_of(i, a);
             k += 1;
         }
-        i += 1;
     }
 }
 
@@ -101,6 +111,7 @@ pub fn write_entries(c: &[i8], entries: &mut [u16])
 pub fn decode_signature(p: Params, body: &[u8]) -> Signature
     requires limited { Limited p }
     requires body_len { length body.now ≡ 2 * p.b + 2 * p.n }
+    ensures sizes { (result.b ≡ p.b) × (result.n ≡ p.n) }
     ensures entries { take p.b result.entries ≡ entries_in p body.now }
     ensures z { take p.n result.z ≡ z_in p body.now }
 {
@@ -108,13 +119,10 @@ pub fn decode_signature(p: Params, body: &[u8]) -> Signature
     let b = p.b;
     let at = 2 * b;
     let mut entries = [0u16; MAX_B];
-    read_numbers16(&body[..at], &mut entries[..b]);
+    read_list(&body[..at], &mut entries[..b]);
     let mut z = [0i16; MAX_N];
-    read_signed16(&body[at..], &mut z[..n]);
-    Signature {
-        entries: entries,
-        z: z,
-    }
+    read_list(&body[at..], &mut z[..n]);
+    Signature { b, n, entries, z }
 }
 
 // Writes the set byte, the challenge entries and z.
@@ -124,8 +132,8 @@ pub fn put_signature(set: u8, entries: &[u16], z: &[i16], out: &mut [u8])
 {
     out[0] = set;
     let at = 1 + 2 * entries.len();
-    write_numbers16(entries, &mut out[1..at]);
-    write_signed16(z, &mut out[at..]);
+    write_list(entries, &mut out[1..at]);
+    write_list(z, &mut out[at..]);
 }
 
 pub fn signature_size(p: Params) -> usize

@@ -1,15 +1,17 @@
 // Functions for tests/ and bench/ alone, to call from C. The kit's own entries for C are those of passign_c.
 #![tactic(auto)]
 
-mod plays;
-
-ghost use Rattle.std.specs.Prelude.{◌≡◌, true, ◌++◌, ◌≤◌, ◌<◌, ◌^◌, T, length};
+ghost use Rattle.std.specs.Prelude.{◌≡◌, true, ◌++◌, ◌≤◌, T, length};
 ghost use Rattle.algebra.specs.All.{are_below};
 ghost use Rattle.parameters.specs.Sets.{is_set, set_of};
 ghost use Rattle.polynomial.specs.Evaluation.{evaluations};
 ghost use Rattle.polynomial.specs.FirstOutside.{first_outside};
 ghost use Rattle.polynomial.specs.Polynomial.{z_of, ternary};
 ghost use Rattle.sha512.specs.Digest.{sha512};
+
+use parameters::Powers;
+
+mod plays;
 
 #[unsafe(no_mangle)]
 pub extern "C" fn harness_sha512(message: &[u8], out: &mut [u8; 64])
@@ -38,7 +40,6 @@ pub extern "C" fn harness_point(f: &[i16], c: &[i8], y: &[i16], z: &mut [i32])
 
 #[unsafe(no_mangle)]
 pub extern "C" fn harness_first_outside(z: &[i32], bound: u32) -> usize
-    requires { bound < 2 ^ 15 }
     ensures { result ≡ first_outside bound z.now }
 {
     polynomial::range::first_outside(z, bound)
@@ -46,10 +47,9 @@ pub extern "C" fn harness_first_outside(z: &[i32], bound: u32) -> usize
 
 #[unsafe(no_mangle)]
 pub extern "C" fn harness_first_outside16(values: &[i16], bound: u32) -> usize
-    requires { bound < 2 ^ 15 }
     ensures { result ≡ first_outside bound values.now }
 {
-    polynomial::range::first_outside16(values, bound)
+    polynomial::range::first_outside(values, bound)
 }
 
 // The plain evaluator at any exponents below N, to measure the one at all exponents against.
@@ -66,8 +66,7 @@ pub extern "C" fn harness_evaluate(
     requires out_len { length out.old ≡ length exponents.now }
     ensures { out.new ≡ evaluations (set_of set) coefficients.now exponents.now }
 {
-    let p = parameters::params_of(set);
-    let mut powers = [0u32; parameters::MAX_N];
-    parameters::put_powers(set, p.n, &mut powers);
-    polynomial::evaluation::evaluate(p, &powers, coefficients, exponents, out);
+    if let Some(powers) = Powers::of(set) {
+        polynomial::evaluation::evaluate(&powers, coefficients, exponents, out);
+    }
 }

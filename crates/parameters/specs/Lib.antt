@@ -2,4 +2,3 @@ pub mod Limits
 pub mod Sets
 pub mod Sound
 pub mod Ring
-pub mod Asks

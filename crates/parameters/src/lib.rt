@@ -1,12 +1,11 @@
 // The five parameter sets of document 01, the powers of each set's g, and the limits that arrays have room for.
 #![tactic(auto)]
 
-ghost use Rattle.std.specs.Prelude.{◌≡◌, true, ◌+◌, ◌≤◌, length};
-ghost use Rattle.std.proofs.Math.Seq.{paste};
+ghost use Rattle.std.specs.Prelude.{◌≡◌, ◌↔◌, true, length, IsSome, IfSome};
 ghost use Rattle.parameters.specs.Sets.{is_set, set_of};
-ghost use Rattle.parameters.specs.Ring.{Usable};
+ghost use Rattle.parameters.specs.Ring.{Usable, are_powers};
 
-mod powers;
+mod power_tables;
 
 // The limits by name, as specs/Limits.antt gives them: N, t and b at most, the masks held at most, a row buffer's bytes, and the bytes of a session
 // file and of a message at most.
@@ -85,7 +84,7 @@ pub fn is_set(set: u8) -> bool
     set < 5
 }
 
-// The numbers of a set; all 0 for a byte that is no set.
+// The numbers of a set; all 0 for a byte that is no set: zeros and no `Option`, since its promise is `set_of`, which is total.
 pub fn params_of(set: u8) -> Params
     ensures { result ≡ set_of set }
 {
@@ -104,30 +103,53 @@ pub fn params_of(set: u8) -> Params
     }
 }
 
-// The first n numbers of a list, copied to a place of a slice.
-pub fn put(out: &mut [u32], at: usize, list: &[u32], n: usize)
-    requires { (n ≤ length list.now) × (at + n ≤ length out.old) }
-    ensures size { length out.new ≡ length out.old }
-    ensures copied { out.new ≡ paste out.old at list.now n }
-{
-    let mut i = 0;
-    while i < n {
-        out[at + i] = list[i];
-        i += 1;
+impl Params {
+    // The numbers of a set, where the byte is one. Here a byte becomes a type; `of` and no `TryFrom`, as a caller names its own refusal.
+    pub fn of(set: u8) -> Option<Params>
+        ensures known { IsSome result ↔ (is_set set ≡ true) }
+        ensures numbers { IfSome result (λ p. p ≡ set_of set) }
+    {
+        if !is_set(set) {
+            return None;
+        }
+        Some(params_of(set))
     }
 }
 
-// Puts the powers of a set's g at the front of a slice. Each arm lends its own constant, which is then read in place: bound to a name by `let`, it would be
-// built on the stack. n is its length, and the compiler, which is not told, copies memory and not number by number.
-pub fn put_powers(set: u8, n: usize, out: &mut [u32])
-    requires { (is_set set ≡ true) × (n ≡ (set_of set).n) × (n ≤ length out.old) }
-    ensures { Usable (set_of set) out.new }
+// A set's numbers with the powers of its g, which are lent and read where they stand: what evaluation one point after the other needs.
+#[derive(Clone, Copy)]
+pub struct Powers<'a> {
+    pub params: Params,
+    pub table: &'a [u32],
+    pub ghost usable: { Usable params table.now },
+    pub ghost size: { length table.now ≡ params.n },
+}
+
+// The powers of a set's g, read in place where they stand. A `match`: the proof tests each arm's table under its own number.
+fn powers_of(set: u8) -> &'static [u32]
+    requires { is_set set ≡ true }
+    ensures { are_powers (set_of set) result.now ≡ true }
 {
     match set {
-        0 => put(out, 0, &powers::POWERS_0, n),
-        1 => put(out, 0, &powers::POWERS_1, n),
-        2 => put(out, 0, &powers::POWERS_2, n),
-        3 => put(out, 0, &powers::POWERS_3, n),
-        _ => put(out, 0, &powers::POWERS_4, n),
+        0 => &power_tables::POWERS_0,
+        1 => &power_tables::POWERS_1,
+        2 => &power_tables::POWERS_2,
+        3 => &power_tables::POWERS_3,
+        _ => &power_tables::POWERS_4,
+    }
+}
+
+impl Powers<'_> {
+    // Those of a set, where the byte is one.
+    #[tactic(auto, using(crate::proofs::Tables::known_powers, crate::proofs::Tables::powers_size))]
+    pub fn of(set: u8) -> Option<Powers<'static>>
+        ensures known { IsSome result ↔ (is_set set ≡ true) }
+        ensures numbers { IfSome result (λ p. p.params ≡ set_of set) }
+    {
+        let params = Params::of(set)?;
+        Some(Powers {
+            params,
+            table: powers_of(set),
+        })
     }
 }

@@ -13,8 +13,8 @@ use Rattle.parameters.specs.Sets.{set_of}
 use Rattle.challenge.specs.Draw.{draw_challenge}
 use Rattle.encoding.specs.Encoding.{public_key}
 use Rattle.scheme.specs.Scheme.{Drawers}
-use Rattle.refusal.specs.declared.Signing.TheVariants as signing
-use Rattle.refusal.specs.declared.Verdict.TheVariants as verdict
+use Rattle.refusal.specs.Signing as signing
+use Rattle.refusal.specs.Verdict as verdict
 use Rattle.refusal.specs.Answer.{set_byte, set_in}
 use Rattle.checking.specs.Check.{check_answer_in, check_answer}
 use Rattle.values.specs.Keys.{public_key_in}

@@ -17,8 +17,8 @@ use Rattle.encoding.proofs.OneEncoding.{exponents_read_back, evaluations_read_ba
 use Rattle.scheme.specs.Scheme.{Drawers, Signed}
 use Rattle.scheme.proofs.Correctness as polynomials
 use Rattle.scheme.proofs.Verdict.{verdict-true}
-use Rattle.refusal.specs.declared.Signing.TheVariants as signing
-use Rattle.refusal.specs.declared.Verdict.TheVariants as verdict
+use Rattle.refusal.specs.Signing as signing
+use Rattle.refusal.specs.Verdict as verdict
 use Rattle.refusal.specs.Answer.{set_byte, set_in}
 use Rattle.signing.specs.Signer.{masks_of, signature_of}
 use Rattle.signing.specs.Sign.{sign_answer_in, sign_written_in, sign_answer, sign_written}

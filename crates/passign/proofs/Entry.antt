@@ -10,7 +10,7 @@ use lib.ListN.{length}
 use borrow.Author.Tests.{eq-eqb, ne_eqb}
 use Rattle.parameters.specs.Sets.{is_set, set_of}
 use Rattle.challenge.specs.Draw.{draw_challenge}
-use Rattle.refusal.specs.declared.Signing.TheVariants as signing
+use Rattle.refusal.specs.Signing as signing
 use Rattle.refusal.specs.Answer.{set_in, is_long}
 use Rattle.signing.specs.Sign.{sign_answer_in, sign_written_in, sign_answer, sign_written}
 use Rattle.signing.proofs.Entry.{Known, known_iff, answer_entry, written_entry}

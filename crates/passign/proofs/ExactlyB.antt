@@ -26,10 +26,10 @@ use Rattle.encoding.specs.Challenge.{are_entries, challenge_of}
 use Rattle.encoding.specs.Encoding.{signature_size, entries_read}
 use Rattle.encoding.proofs.ReadChallenge.{read_sparse, body_sparse}
 use Rattle.scheme.specs.Scheme.{Drawers}
-use Rattle.refusal.specs.declared.Signing.TheVariants as signing
+use Rattle.refusal.specs.Signing as signing
 use Rattle.refusal.specs.Numbers.{wrong_length, wrong_set}
 use Rattle.refusal.specs.Answer.{set_byte, set_in, is_long}
-use Rattle.refusal.proofs.Refusal.{passed, step, end}
+use Rattle.refusal.proofs.Chain.{passed, step, end}
 use Rattle.refusal.proofs.SetRefusal.{in_a_set_iff}
 use Rattle.codec.specs.Codec.{entries_refusal, read_signature_in, read_signature_refusal, read_entries_written}
 use Rattle.signing.specs.Sign.{sign_answer_in, sign_written_in, sign_answer, sign_written}

@@ -21,10 +21,10 @@ use Rattle.challenge.specs.Pool.{is_rule}
 use Rattle.encoding.specs.Encoding.{are_exponents, is_key, key_of}
 use Rattle.scheme.specs.Scheme.{Drawer, Drawers, Signed, attempt}
 use Rattle.scheme.proofs.FirstPassing.{first_passing_lem, none_passing, passed_over}
-use Rattle.refusal.specs.declared.Signing.TheVariants as answer
+use Rattle.refusal.specs.Signing as answer
 use Rattle.refusal.specs.Answer.{set_byte, set_in, is_long}
 use Rattle.refusal.proofs.Apart.{refused_same, refused_not_signed}
-use Rattle.refusal.proofs.Refusal.{chosen, equal_iff}
+use Rattle.refusal.proofs.Chain.{chosen, equal_iff}
 use Rattle.signing.specs.Signer.{offered_count, masks_of, mask_at, signed_by, signed_bytes}
 use Rattle.signing.specs.Sign.{sign_lengths, sign_refusal_in, sign_refusal, signed_answer, signing_after, written_after}
 use Rattle.signing.specs.Sign.{sign_answer_in, sign_written_in, sign_answer, sign_written}

@@ -11,7 +11,7 @@ use lib.ListN.{length}
 use Rattle.challenge.specs.Draw.{draw_challenge}
 use Rattle.encoding.specs.Encoding.{key_of}
 use Rattle.scheme.specs.Scheme.{Signed}
-use Rattle.refusal.specs.declared.Signing.TheVariants as signing
+use Rattle.refusal.specs.Signing as signing
 use Rattle.refusal.specs.Answer.{set_byte, set_in, unless_refused}
 use Rattle.refusal.proofs.Answering.{kept, refused_number}
 use Rattle.refusal.proofs.Apart.{refused_not_signed}

@@ -10,7 +10,7 @@ use Rattle.parameters.specs.declared.Params.{Params}
 use Rattle.parameters.specs.Sets.{sets, set_of}
 use Rattle.challenge.specs.Draw.{draw_challenge}
 use Rattle.encoding.specs.Encoding.{signature_size}
-use Rattle.refusal.specs.declared.Signing.TheVariants as signing
+use Rattle.refusal.specs.Signing as signing
 use Rattle.refusal.specs.Answer.{set_byte, set_in}
 use Rattle.signing.specs.Sign.{sign_answer, sign_written}
 use Rattle.signing.proofs.AcceptedSigning.{accepted_signing}

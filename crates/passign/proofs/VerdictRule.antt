@@ -12,10 +12,10 @@ use Rattle.challenge.specs.Draw.{draw_challenge}
 use Rattle.encoding.specs.Encoding.{exponents_of, evaluations_of}
 use Rattle.scheme.specs.Scheme.{Drawer, Drawers}
 use Rattle.scheme.proofs.Verdict.{verdict-true, verdict-false}
-use Rattle.refusal.specs.declared.Verdict.TheVariants as answer
+use Rattle.refusal.specs.Verdict as answer
 use Rattle.refusal.specs.Answer.{set_in}
 use Rattle.refusal.proofs.Apart.{refused_not_yes, refused_not_no, yes_not_no, no_not_yes}
-use Rattle.refusal.proofs.Refusal.{passed, chosen, end, equal_iff}
+use Rattle.refusal.proofs.Chain.{passed, chosen, end, equal_iff}
 use Rattle.checking.specs.Check.{check_refusal_in, check_refusal, signature_read, check_verdict, verdict_after, check_answer_in, check_answer}
 use Rattle.passign.specs.VerdictRule.{Rule}
 

@@ -15,10 +15,10 @@ use Rattle.challenge.specs.Draw.{draw_challenge}
 use Rattle.encoding.specs.Encoding.{secret_key_size, is_key, key_of}
 use Rattle.scheme.specs.Scheme.{Drawer, Drawers, SparseDrawer, Signature}
 use Rattle.signing.specs.Signer.{mask_at}
-use Rattle.refusal.specs.declared.Signing.{Signing}
-use Rattle.refusal.specs.declared.Signing.TheVariants as signing
-use Rattle.refusal.specs.declared.Verdict.{Verdict}
-use Rattle.refusal.specs.declared.Verdict.TheVariants as verdict
+use Rattle.refusal.specs.Signing.{Signing}
+use Rattle.refusal.specs.Signing as signing
+use Rattle.refusal.specs.Verdict.{Verdict}
+use Rattle.refusal.specs.Verdict as verdict
 use Rattle.refusal.specs.Answer.{set_byte}
 use Rattle.signing.specs.Sign.{sign_answer_in, sign_written_in, sign_answer, sign_written}
 use Rattle.checking.specs.Check.{signature_read, check_answer_in, check_answer}

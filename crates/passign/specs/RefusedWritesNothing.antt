@@ -2,9 +2,9 @@
 -- contract gives it, is a refusal; and where the number that the C function returns is one.
 -- Assumes nothing.
 use Rattle.std.specs.Prelude.{◌≡◌, List, ℕ, ◌<◌, ℤ, length}
-use Rattle.refusal.specs.declared.Answer.TheVariants.{Refused}
-use Rattle.refusal.specs.declared.Signing.{Signing}
-use Rattle.refusal.specs.declared.Signing.TheVariants as signing
+use Rattle.refusal.specs.Answer.{Refused}
+use Rattle.refusal.specs.Signing.{Signing}
+use Rattle.refusal.specs.Signing as signing
 use Rattle.refusal.specs.Answer.{answer_of, signing_number}
 use Rattle.codec.specs.Codec.{read_secret_key_refusal, read_secret_key_written, write_secret_key_refusal, write_secret_key_written}
 use Rattle.codec.specs.Codec.{read_public_key_refusal, read_exponents_written, read_evaluations_written, write_public_key_refusal, write_public_key_written}

@@ -7,7 +7,7 @@ pub use codec::{
     read_public_key, read_secret_key, read_signature, write_public_key, write_secret_key,
     write_signature,
 };
-pub use refusal::{Answer, Signing, Verdict};
+pub use refusal::{Refusal, Verdict};
 pub use signing::sign;
 pub use values::drawing::draw;
 pub use values::evaluation::{evaluate, evaluate_all};

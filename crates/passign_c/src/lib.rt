@@ -3,6 +3,7 @@
 
 ghost use Rattle.std.specs.Prelude.{◌≡◌};
 ghost use Rattle.refusal.specs.Answer.{number_of, signing_number, verdict_number};
+ghost use Rattle.refusal.specs.Meaning.{answer_in};
 ghost use Rattle.checking.specs.Check.{check_answer};
 ghost use Rattle.values.specs.Draw.{draw_refusal, draw_written};
 ghost use Rattle.values.specs.Evaluate.{evaluate_refusal, evaluate_written};
@@ -10,16 +11,17 @@ ghost use Rattle.values.specs.EvaluateAll.{evaluate_all_refusal, evaluate_all_wr
 ghost use Rattle.values.specs.Keys.{public_key_refusal, public_key_written};
 ghost use Rattle.signing.specs.Sign.{sign_answer, sign_written};
 
-use passign::{Answer, Signing, Verdict};
+use passign::{Refusal, Verdict};
 
 pub mod encodings;
 
-fn number(a: Answer) -> u32
-    ensures { result ≡ number_of a }
+// 0, else the refusal number.
+fn number(answer: Result<(), Refusal>) -> u32
+    ensures { result ≡ number_of (answer_in answer) }
 {
-    match a {
-        Answer::Done => 0,
-        Answer::Refused(n) => n,
+    match answer {
+        Ok(()) => 0,
+        Err(refusal) => refusal.number(),
     }
 }
 
@@ -33,11 +35,10 @@ pub extern "C" fn passign_check(
 ) -> u32
     ensures { result ≡ verdict_number (check_answer rule public_key.now message.now signature.now) }
 {
-    let v = passign::check(public_key, message, signature, rule);
-    match v {
-        Verdict::Yes => 256,
-        Verdict::No => 0,
-        Verdict::Refused(n) => n,
+    match passign::check(public_key, message, signature, rule) {
+        Ok(Verdict::Yes) => 256,
+        Ok(Verdict::No) => 0,
+        Err(refusal) => refusal.number(),
     }
 }
 
@@ -56,10 +57,9 @@ pub extern "C" fn passign_sign(
     ensures written { signature.new ≡ sign_written rule secret_key.now points.now masks.now
         message.now signature.old }
 {
-    let s = passign::sign(secret_key, points, masks, message, signature, rule);
-    match s {
-        Signing::Signed(passed) => 256 + passed as u32,
-        Signing::Refused(n) => n,
+    match passign::sign(secret_key, points, masks, message, signature, rule) {
+        Ok(passed) => 256 + u32::from(passed),
+        Err(refusal) => refusal.number(),
     }
 }
 

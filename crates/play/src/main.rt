@@ -1,59 +1,39 @@
 // Plays a session file from standard input to its end, and writes each row to standard output.
 #![tactic(auto)]
 
-ghost use Rattle.std.specs.Prelude.{◌≡◌};
-ghost use Rattle.session_rules.specs.Play.{is_row};
-ghost use Rattle.session.specs.Session.{play_answer_of};
+ghost use Rattle.std.specs.Prelude.{◌≤◌, length};
 ghost use Rattle.session.specs.WholeFile.{PlayedWhole};
 
-use parameters::ROW_ROOM;
-use session::{PlayAnswer, Played, Session, open, play, row_size};
+use session::{Session, play_each};
+use std::io::{Print, Read, Stdin, Stdout};
 
-const STDIN_FILENO: i32 = 0;
-
-const STDOUT_FILENO: i32 = 1;
-
-// Writes the row at the front of a row buffer, whole.
-fn print_row(rows: &[u8]) {
-    let size = row_size(rows);
-    io::write_all(STDOUT_FILENO, &rows[..size]);
-}
-
-// Writes the row of a play that wrote one, and says whether it did.
-fn show(answer: PlayAnswer, rows: &[u8]) -> bool
-    ensures { result ≡ is_row (play_answer_of answer) }
-{
-    match answer {
-        PlayAnswer::Row(_) => {
-            print_row(rows);
-            true
-        }
-        PlayAnswer::Fault => false,
-        PlayAnswer::Ended => false,
-    }
-}
-
-// Plays to the end, as `session::play_file` does, and writes each row between the plays.
-fn play_all(file: &[u8]) -> Session
+// Plays to the end, as `session::play_file` does, and writes each row between the plays. Whether it was written is not told.
+fn play_all(out: Stdout, file: &[u8]) -> Session
     ensures { PlayedWhole file.now result }
 {
-    let mut rows = [0u8; ROW_ROOM];
-    let mut played = Played {
-        session: open(),
-        answer: PlayAnswer::Fault,
-    };
-    let mut goes = true;
-    while goes {
-        played = play(played.session, file, &mut rows);
-        let answer = played.answer;
-        goes = show(answer, &rows);
+    play_each(file, |row| {
+        let _ = out.write_all(row);
+    })
+}
+
+// Reads into the front of a buffer until it is full or the input ends or fails, and says how much came: what came is played. A buffer of a fixed size, so that no
+// want of memory cuts a file short.
+fn read_front(mut input: Stdin, file: &mut [u8]) -> usize
+    ensures { result ≤ length file.new }
+{
+    let mut size = 0;
+    for _ in 0..file.len() {
+        match input.read(&mut file[size..]) {
+            Ok(0) | Err(_) => break,
+            Ok(more) => size += more,
+        }
     }
-    played.session
+    size
 }
 
 // One byte more than a session file may have, so that a longer file is seen and refused with 1.
-fn main() {
+fn main(rt: HostRuntime) {
     let mut file = [0u8; 65537];
-    let size = io::read_full(STDIN_FILENO, &mut file);
-    play_all(&file[..size]);
+    let size = read_front(rt.stdin(), &mut file);
+    play_all(rt.stdout(), &file[..size]);
 }

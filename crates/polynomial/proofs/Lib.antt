@@ -2,7 +2,6 @@ pub mod Linear
 pub mod Norm
 pub mod Bound
 pub mod Sparse
-pub mod Ends
 pub mod FirstOutside
 pub mod RangeLoops
 pub mod Horner
@@ -10,4 +9,5 @@ pub mod EvaluationLaws
 pub mod SignedForm
 pub mod IndexFormula
 pub mod Rotation
+pub mod ProductLoops
 pub mod Table

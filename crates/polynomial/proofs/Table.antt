@@ -2,13 +2,14 @@
 -- Assumes nothing.
 use mathlib.Core.Path.{◌≡◌, refl, sym, ap, ◌∙◌}
 use mathlib.Core.List.{List}
-use Prim.Native.Nat.{ℕ, ◌+◌, ◌*◌, ◌%◌, ◌^◌, ◌<◌}
-use native.Mathlib.Nat.{zero-mul, zero-mod, one-mul, add-mul, add-mod, mod-lt, mod-mod, mod-eq_of_lt}
+use Prim.Native.Nat.{ℕ, ◌+◌, ◌*◌, ◌%◌, ◌^◌, ◌<◌, ◌≤◌}
+use native.Mathlib.Nat.{one-mul, add-mul, add-mod, mod-lt, mod-mod, mod-eq_of_lt}
 use native.Mathlib.Numerals.{add-one}
 use native.Mathlib.Omega.{arith}
-use lib.IntN.{ℤ, pos, ◌+ℤ◌, +ℤ_assoc}
+use lib.IntN.{ℤ, pos, ◌+ℤ◌, nat_abs, +ℤ_assoc}
 use lib.ListN.{length, get_or}
 use Rattle.algebra.specs.Integer.{residue, sum}
+use Rattle.algebra.proofs.Absolute.{abs-add}
 use Rattle.algebra.proofs.Congruence.{Cong, cong_refl, cong-mul, residue-eq, eq-residue}
 use Rattle.algebra.proofs.Remainder.{pow_round}
 use Rattle.algebra.proofs.Sum.{sum-cong}
@@ -16,12 +17,9 @@ use Rattle.parameters.specs.declared.Params.{Params}
 use Rattle.parameters.specs.Sound.{Sound}
 use Rattle.polynomial.specs.Evaluation.{term, evaluation_residue}
 use Rattle.polynomial.specs.Polynomial.{coefficient}
-use Rattle.polynomial.specs.Asks.{product_at, four_products, read_term}
+use Rattle.polynomial.specs.Asks.{product_at, four_products, read_term, Summed}
 
 -- ---- the place in the table, i × j modulo its length
-pub place_first : (j n : ℕ) → 0 ≡ 0 * j % n
-place_first j n = rw (zero-mul, zero-mod)
-
 pub place_once : (j n : ℕ) → j < n → j ≡ 1 * j % n
 place_once j n h = rw (one-mul, mod-eq_of_lt h)
 
@@ -47,6 +45,34 @@ sum_four n t f j i {k} {j2} {j3} {acc} g g1 g2 g3 e =
   where
     parts : (a b c d e : ℤ) → a +ℤ (b +ℤ c +ℤ d +ℤ e) ≡ a +ℤ b +ℤ c +ℤ d +ℤ e
     parts a b c d e = simp +ℤ_assoc
+
+-- ---- a turn of the loops, of one product or of four
+module _ {n : ℕ} {t : List ℕ} {f : List ℤ} {j : ℕ} {acc : ℤ} {k i : ℕ} (s : Summed n t f j acc k i) (inside : j < n) where
+  pub summed_one : {next : ℤ} {place : ℕ} → i < n → nat_abs (product_at t f k i) ≤ 2 ^ 47 → next ≡ acc +ℤ product_at t f k i → place ≡ (k + j) % n
+      → Summed n t f j next place (i + 1)
+  summed_one more small e r = record {
+    below = omega arith;
+    inside = rw r (mod-lt (k + j) (omega arith));
+    place = place_next i 1 j n s.place (place_once j n inside) r;
+    room = rw e (omega (arith, abs-add acc (product_at t f k i), s.room, small));
+    value = e ∙ sum_next n t f j i refl s.place s.value;
+  }
+
+  pub summed_four : {j2 j3 j4 place : ℕ} {next : ℤ} → i + 4 ≤ n → j2 ≡ (j + j) % n → j3 ≡ (j2 + j) % n → j4 ≡ (j3 + j) % n
+      → nat_abs (four_products t f n k i j j2 j3) ≤ 4 * 2 ^ 47 → next ≡ acc +ℤ four_products t f n k i j j2 j3 → place ≡ (k + j4) % n
+      → Summed n t f j next place (i + 4)
+  summed_four {j2} {j3} more e2 e3 e4 small e r =
+      let once = place_once j n inside in
+      let twice = place_next 1 1 j n once once e2 in
+      let thrice = place_next 2 1 j n twice once e3 in
+      let fourfold = place_next 3 1 j n thrice once e4 in
+      record {
+        below = more;
+        inside = rw r (mod-lt _ (omega arith));
+        place = place_next i 4 j n s.place fourfold r;
+        room = rw e (omega (arith, abs-add acc (four_products t f n k i j j2 j3), s.room, small));
+        value = e ∙ sum_four n t f j i s.place once twice thrice s.value;
+      }
 
 -- ---- the sum is the evaluation's
 module _ {p : Params} (sound : Sound p) where

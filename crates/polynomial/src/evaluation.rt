@@ -1,16 +1,16 @@
-// Evaluation at powers of g, modulo q. The powers come as a lent table, so any set's table serves.
-ghost use Rattle.std.specs.Prelude.{◌≡◌, ◌+◌, ◌*◌, ◌<◌, ◌≤◌, ◌%◌, ◌^◌, T, pos, ◌+ℤ◌, ◌*ℤ◌, nat_abs, length};
+// Evaluation at powers of g, modulo q. Numbers and table come as `Powers`, so any set's serve.
+ghost use Rattle.std.specs.Prelude.{◌≡◌, ◌+◌, ◌*◌, ◌<◌, ◌≤◌, ◌/◌, ◌%◌, ◌^◌, ℕ, T, pos, ◌+ℤ◌, ◌*ℤ◌, nat_abs, length, map};
 ghost use Rattle.algebra.specs.All.{are_below};
-ghost use Rattle.algebra.specs.Integer.{residue};
+ghost use Rattle.algebra.specs.Integer.{residue, centre};
 ghost use Rattle.parameters.specs.Limits.{max_n};
 ghost use Rattle.parameters.specs.Ring.{Usable};
 ghost use Rattle.polynomial.specs.Evaluation.{evaluation_residue, evaluations, evaluation_residues};
 ghost use Rattle.polynomial.specs.Asks.{product_at, four_products, Summed};
 
 use crate::remainder::{centred, residue_of};
-use parameters::{MAX_N, Params};
+use parameters::Powers;
 
-// k + j modulo n, for k and j below n: the next place in the table of powers. n - j is the same in each turn of a loop that calls it.
+// k + j modulo n, for k and j below n: the next place in the table of powers (as `plus_mod` of `transform` over residues; a trait for one line is no plainer). n - j is the same in each turn of a loop that calls it.
 fn add_mod(k: usize, j: usize, n: usize) -> usize
     requires { (k < n) × (j < n) × (n < 65536) }
     ensures value { result ≡ (k + j) % n }
@@ -25,7 +25,7 @@ fn product(a: i16, x: u32) -> i64
     ensures value { result ≡ a *ℤ pos x }
     ensures small { nat_abs result ≤ 2 ^ 47 }
 {
-    (a as i64) * (x as i64)
+    i64::from(a) * i64::from(x)
 }
 
 // a + b, of 62 bits at most.
@@ -38,8 +38,9 @@ fn plus(a: i64, b: i64) -> i64
 }
 
 // Coefficient i times the power at k.
-fn product_at(powers: &[u32; MAX_N], coefficients: &[i16], k: usize, i: usize) -> i64
-    requires { (k < max_n) × (i < length coefficients.now) }
+#[tactic(auto, unfolding(crate::specs::Asks::product_at))]
+fn product_at(powers: &[u32], coefficients: &[i16], k: usize, i: usize) -> i64
+    requires { (k < length powers.now) × (i < length coefficients.now) }
     ensures value { result ≡ product_at powers.now coefficients.now k i }
     ensures small { nat_abs result ≤ 2 ^ 47 }
 {
@@ -48,7 +49,7 @@ fn product_at(powers: &[u32; MAX_N], coefficients: &[i16], k: usize, i: usize) -
 
 // Four products from i on. Their places are each one turn away from k, so none waits for another; j2 and j3 are two and three steps of j.
 fn four_products(
-    powers: &[u32; MAX_N],
+    powers: &[u32],
     coefficients: &[i16],
     k: usize,
     i: usize,
@@ -56,7 +57,7 @@ fn four_products(
     j2: usize,
     j3: usize,
 ) -> i64
-    requires coefficients_len_bound { length coefficients.now ≤ max_n }
+    requires coefficients_len_bound { (length coefficients.now ≤ max_n) × (length coefficients.now ≤ length powers.now) }
     requires k_in_bounds { (k < length coefficients.now) × (i + 4 ≤ length coefficients.now) }
     requires j_in_bounds { (j < length coefficients.now) × (j2 < length coefficients.now) × (j3 < length coefficients.now) }
     ensures value { result ≡ four_products powers.now coefficients.now (length coefficients.now) k i j j2 j3 }
@@ -73,18 +74,17 @@ fn four_products(
     plus(plus(plus(a, b), c), d)
 }
 
-// The sum of the first i products, and the place k in the table of the next one's power.
+// The sum of the first products, and the place k in the table of the next one's power.
 #[derive(Drop)]
 struct Partial {
     acc: i64,
     k: usize,
-    i: usize,
 }
 
 // The sum of all products but the last three or fewer, four a turn.
-fn summed_by_four(powers: &[u32; MAX_N], coefficients: &[i16], j: usize) -> Partial
-    requires { (length coefficients.now ≤ max_n) × (j < length coefficients.now) }
-    ensures { Summed (length coefficients.now) powers.now coefficients.now j result.acc result.k result.i }
+fn summed_by_four(powers: &[u32], coefficients: &[i16], j: usize) -> Partial
+    requires { (length coefficients.now ≤ max_n) × (length coefficients.now ≤ length powers.now) × (j < length coefficients.now) }
+    ensures { Summed (length coefficients.now) powers.now coefficients.now j result.acc result.k (length coefficients.now / 4 * 4) }
 {
     let n = coefficients.len();
     let j2 = add_mod(j, j, n);
@@ -92,78 +92,98 @@ fn summed_by_four(powers: &[u32; MAX_N], coefficients: &[i16], j: usize) -> Part
     let j4 = add_mod(j3, j, n);
     let mut acc: i64 = 0;
     let mut k: usize = 0;
-    let mut i: usize = 0;
-    while i + 4 <= n {
-        acc = plus(acc, four_products(powers, coefficients, k, i, j, j2, j3));
+    for turn in 0..n / 4 {
+        acc = plus(
+            acc,
+            four_products(powers, coefficients, k, turn * 4, j, j2, j3),
+        );
         k = add_mod(k, j4, n);
-        i += 4;
     }
-    Partial {
-        acc: acc,
-        k: k,
-        i: i,
-    }
+    Partial { acc, k }
 }
 
 // The sum of coefficients times powers of the table at exponent j: modulo q the definition's sum. Nothing is reduced on the way.
-fn sum_at(p: Params, powers: &[u32; MAX_N], coefficients: &[i16], j: usize) -> i64
-    requires usable { Usable p powers.now }
-    requires coefficients_len { (length coefficients.now ≡ p.n) × (j < p.n) }
-    ensures { residue result p.q ≡ evaluation_residue p coefficients.now j }
+fn sum_at(powers: &Powers, coefficients: &[i16], j: usize) -> i64
+    requires coefficients_len { (length coefficients.now ≡ powers.now.params.n) × (j < powers.now.params.n) }
+    ensures { residue result powers.now.params.q ≡ evaluation_residue powers.now.params coefficients.now j }
 {
     let n = coefficients.len();
-    let s = summed_by_four(powers, coefficients, j);
+    let s = summed_by_four(powers.table, coefficients, j);
     let mut acc = s.acc;
     let mut k = s.k;
-    let mut i = s.i;
-    while i < n {
-        acc = plus(acc, product_at(powers, coefficients, k, i));
+    for i in n / 4 * 4..n {
+        acc = plus(acc, product_at(powers.table, coefficients, k, i));
         k = add_mod(k, j, n);
-        i += 1;
     }
     acc
 }
 
-// The evaluations at the points, in their order.
-pub fn evaluate(
-    p: Params,
-    powers: &[u32; MAX_N],
-    coefficients: &[i16],
-    exponents: &[u16],
-    out: &mut [i32],
-)
-    requires usable { Usable p powers.now }
-    requires coefficients_len { length coefficients.now ≡ p.n }
-    requires exponents_below { T (are_below p.n exponents.now) }
-    requires out_len { length out.old ≡ length exponents.now }
-    ensures { out.new ≡ evaluations p coefficients.now exponents.now }
-{
-    let q = p.q;
-    let mut i: usize = 0;
-    while i < exponents.len() {
-        out[i] = centred(sum_at(p, powers, coefficients, exponents[i] as usize), q);
-        i += 1;
+// The form in which an evaluation is wanted.
+trait Reduced: Copy {
+    ghost of_residue: { ℕ → ℕ → Self };
+
+    // The form of an integer by its residue modulo q.
+    fn reduced(v: i64, q: u32) -> Self
+        requires { (0 < q) × (q < 2 ^ 31) }
+        ensures { result ≡ of_residue (residue v q) q };
+}
+
+// Signed.
+impl Reduced for i32 {
+    ghost of_residue = { λ r q. centre r q };
+
+    fn reduced(v: i64, q: u32) -> i32 {
+        centred(v, q)
     }
 }
 
-// The same reduced to 0..q-1.
-pub fn evaluate_residues(
-    p: Params,
-    powers: &[u32; MAX_N],
+// In 0..q-1.
+impl Reduced for u32 {
+    ghost of_residue = { λ r q. r };
+
+    fn reduced(v: i64, q: u32) -> u32 {
+        residue_of(v, q)
+    }
+}
+
+// The evaluations at the points, in their order, in either form.
+fn evaluate_in_form<R: Reduced>(
+    powers: &Powers,
     coefficients: &[i16],
     exponents: &[u16],
-    out: &mut [u32],
+    out: &mut [R],
 )
-    requires usable { Usable p powers.now }
-    requires coefficients_len { length coefficients.now ≡ p.n }
-    requires exponents_below { T (are_below p.n exponents.now) }
+    requires coefficients_len { length coefficients.now ≡ powers.now.params.n }
+    requires exponents_below { T (are_below powers.now.params.n exponents.now) }
     requires out_len { length out.old ≡ length exponents.now }
-    ensures { out.new ≡ evaluation_residues p coefficients.now exponents.now }
+    ensures { out.new ≡ map (λ j. R.of_residue (evaluation_residue powers.now.params coefficients.now j) powers.now.params.q) exponents.now }
 {
-    let q = p.q;
-    let mut i: usize = 0;
-    while i < exponents.len() {
-        out[i] = residue_of(sum_at(p, powers, coefficients, exponents[i] as usize), q);
-        i += 1;
+    for (i, exponent) in exponents.iter().enumerate() {
+        out[i] = R::reduced(
+            sum_at(powers, coefficients, usize::from(*exponent)),
+            powers.params.q,
+        );
     }
+}
+
+// The evaluations at the points, in their order.
+#[tactic(auto, unfolding(crate::specs::Evaluation::evaluations, crate::specs::Evaluation::evaluation, crate::specs::Evaluation::evaluation_residue))]
+pub fn evaluate(powers: &Powers, coefficients: &[i16], exponents: &[u16], out: &mut [i32])
+    requires coefficients_len { length coefficients.now ≡ powers.now.params.n }
+    requires exponents_below { T (are_below powers.now.params.n exponents.now) }
+    requires out_len { length out.old ≡ length exponents.now }
+    ensures { out.new ≡ evaluations powers.now.params coefficients.now exponents.now }
+{
+    evaluate_in_form(powers, coefficients, exponents, out)
+}
+
+// The same reduced to 0..q-1.
+#[tactic(auto, unfolding(crate::specs::Evaluation::evaluation_residues))]
+pub fn evaluate_residues(powers: &Powers, coefficients: &[i16], exponents: &[u16], out: &mut [u32])
+    requires coefficients_len { length coefficients.now ≡ powers.now.params.n }
+    requires exponents_below { T (are_below powers.now.params.n exponents.now) }
+    requires out_len { length out.old ≡ length exponents.now }
+    ensures { out.new ≡ evaluation_residues powers.now.params coefficients.now exponents.now }
+{
+    evaluate_in_form(powers, coefficients, exponents, out)
 }

@@ -13,7 +13,7 @@ fn add_product(s: i16, a: i8, x: i16) -> i16
     requires { (nat_abs s ≤ 2 ^ 14) × (nat_abs a ≤ 1) × (nat_abs x ≤ 1) }
     ensures { result ≡ s +ℤ a *ℤ x }
 {
-    s + (a as i16) * x
+    s + i16::from(a) * x
 }
 
 // sums + a f.
@@ -21,10 +21,8 @@ fn add_scaled(sums: &mut [i16], f: &[i16], a: i8)
     requires { Addable sums.old f.now a }
     ensures { sums.new ≡ add sums.old (scale a f.now) }
 {
-    let mut i: usize = 0;
-    while i < f.len() {
+    for i in 0..f.len() {
         sums[i] = add_product(sums[i], a, f[i]);
-        i += 1;
     }
 }
 
@@ -33,9 +31,10 @@ fn add_rotated(sums: &mut [i16], f: &[i16], i: usize, a: i8)
     requires { Addable sums.old f.now a × (i ≤ length f.now) }
     ensures { sums.new ≡ add sums.old (scale a (rotations i f.now)) }
 {
-    let cut = f.len() - i;
-    add_scaled(&mut sums[i..], &f[..cut], a);
-    add_scaled(&mut sums[..i], &f[cut..], a);
+    let (front, behind) = sums.split_at_mut(i);
+    let (first, last) = f.split_at(f.len() - i);
+    add_scaled(behind, first, a);
+    add_scaled(front, last, a);
 }
 
 // f ⋆ c + sums. A turn moves a sum by at most 1, and there are at most max_n turns: 16 bits are enough.
@@ -44,13 +43,10 @@ fn add_star(f: &[i16], c: &[i8], sums: &mut [i16])
     requires small { T (ternary f.now) × T (ternary c.now) × T (within (2 ^ 13) sums.old) }
     ensures { sums.new ≡ add (star f.now c.now) sums.old }
 {
-    let mut i: usize = 0;
-    while i < c.len() {
-        let a = c[i];
-        if a != 0 {
-            add_rotated(sums, f, i, a);
+    for (i, a) in c.iter().enumerate() {
+        if *a != 0 {
+            add_rotated(sums, f, i, *a);
         }
-        i += 1;
     }
 }
 
@@ -58,7 +54,7 @@ fn add_star(f: &[i16], c: &[i8], sums: &mut [i16])
 fn wide_sum(a: i16, b: i16) -> i32
     ensures { result ≡ a +ℤ b }
 {
-    a as i32 + b as i32
+    i32::from(a) + i32::from(b)
 }
 
 // The mask, added to the product last, as masks take the room that the product's sums need.
@@ -66,14 +62,12 @@ fn add_mask(sums: &[i16], y: &[i16], z: &mut [i32])
     requires { (length sums.now ≡ length y.now) × (length z.old ≡ length y.now) }
     ensures { z.new ≡ add sums.now y.now }
 {
-    let mut i: usize = 0;
-    while i < y.len() {
+    for i in 0..y.len() {
         z[i] = wide_sum(sums[i], y[i]);
-        i += 1;
     }
 }
 
-// The point f ⋆ c + y.
+// The point f ⋆ c + y. The sums stand in front of an array of the largest size: there is no heap here.
 pub fn z_of(f: &[i16], c: &[i8], y: &[i16], z: &mut [i32])
     requires f_len_bound { (length f.now ≤ max_n) × (length c.now ≡ length f.now) × (length y.now ≡ length f.now) × (length z.old ≡ length f.now) }
     requires are_ternary { T (ternary f.now) × T (ternary c.now) }

@@ -2,18 +2,12 @@
 ghost use Rattle.std.specs.Prelude.{◌≡◌, ◌<◌, ◌%◌, ◌^◌, nat_abs};
 ghost use Rattle.algebra.specs.Integer.{residue, centre, centred};
 
-fn wide(x: u32) -> u64
-    ensures { result ≡ x }
-{
-    x as u64
-}
-
 // x modulo q.
 pub fn modulo(x: u64, q: u32) -> u32
     requires { 0 < q }
     ensures { result ≡ x % q }
 {
-    (x % wide(q)) as u32
+    (x % u64::from(q)) as u32
 }
 
 // v reduced to 0..q-1.
@@ -21,11 +15,7 @@ pub fn residue_of(v: i64, q: u32) -> u32
     requires { 0 < q }
     ensures { result ≡ residue v q }
 {
-    if v < 0 {
-        q - 1 - modulo((-1 - v) as u64, q)
-    } else {
-        modulo(v as u64, q)
-    }
+    v.rem_euclid(i64::from(q)) as u32
 }
 
 // A number r of 0..q-1 in signed form; of any two words what the definition says.
@@ -33,11 +23,10 @@ pub fn centre(r: u32, q: u32) -> i64
     ensures value { result ≡ centre r q }
     ensures small { nat_abs result < 2 ^ 33 }
 {
-    let bound = (wide(q) + 1) / 2;
-    if wide(r) < bound {
-        r as i64
+    if r < q.div_ceil(2) {
+        i64::from(r)
     } else {
-        (r as i64) - (q as i64)
+        i64::from(r) - i64::from(q)
     }
 }
 

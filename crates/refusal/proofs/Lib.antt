@@ -1,4 +1,4 @@
-pub mod Refusal
+pub mod Chain
 pub mod Answering
 pub mod Apart
 pub mod SetRefusal

@@ -1,15 +1,13 @@
 -- What the entries' definitions share: messages too long, the set of an encoding, refusal numbers (0 for none), and document 01's number and values for
 -- each case of an answer.
 -- Assumes nothing.
-use Rattle.std.specs.Prelude.{◌≡◌, Bool, not, cond, List, [], ◌∷◌, ℕ, zero, suc, ◌+◌, ltb, eqb, length, get_or}
+use Rattle.std.specs.Prelude.{Bool, not, cond, List, [], ◌∷◌, ℕ, zero, suc, ◌+◌, ltb, eqb, length, get_or}
 use Rattle.parameters.specs.declared.Params.{Params}
 use Rattle.parameters.specs.Sets.{is_set, set_of}
-use Rattle.refusal.specs.declared.Answer.{Answer}
-use Rattle.refusal.specs.declared.Answer.TheVariants.{Done, Refused}
-use Rattle.refusal.specs.declared.Signing.{Signing}
-use Rattle.refusal.specs.declared.Signing.TheVariants as signing
-use Rattle.refusal.specs.declared.Verdict.{Verdict}
-use Rattle.refusal.specs.declared.Verdict.TheVariants as verdict
+use Rattle.refusal.specs.Signing.{Signing}
+use Rattle.refusal.specs.Signing as signing
+use Rattle.refusal.specs.Verdict.{Verdict}
+use Rattle.refusal.specs.Verdict as verdict
 use Rattle.refusal.specs.Numbers.{wrong_length, wrong_set}
 
 -- an encoding's first byte is its set
@@ -32,6 +30,11 @@ in_set s refusal = cond (not (is_set s)) wrong_set (refusal (set_of s))
 abbrev pub in_set_of : List ℕ → (Params → ℕ) → ℕ
 in_set_of xs refusal = cond (eqb (length xs) 0) wrong_length (in_set (set_byte xs) refusal)
 
+-- what an entry answers that writes buffers: it wrote them whole, or the refusal number
+pub data Answer : Type 0 where
+  Done : Answer
+  Refused : ℕ → Answer
+
 -- the answer with this refusal number, 0 for none
 abbrev pub answer_of : ℕ → Answer
 answer_of zero = Done
@@ -40,11 +43,6 @@ answer_of (suc n) = Refused (suc n)
 -- a buffer after a call with this refusal number: what is written, or as it was
 abbrev pub unless_refused : {A : Type 0} → ℕ → List A → List A → List A
 unless_refused n written before = cond (eqb n 0) written before
-
--- what a call with this refusal number answers, and a buffer of it before and after
-pub record BufferOutcome {A : Type 0} (n : ℕ) (answer : Answer) (written before after : List A) : Type 0 where
-  pub answers : answer ≡ answer_of n
-  pub buffer : after ≡ unless_refused n written before
 
 -- what an answer states in document 01's words: the number, 0 for an accepted call and else the refusal, and the values that come with it
 pub record Stated : Type 0 where

@@ -1,55 +1,59 @@
--- The command due at a place: the tests of the code's chain are those of the definition; it is the refusal that is due, and where none is due it is played.
+-- The command due at a place, by its cases: none where the file ends, 00, one that is refused, and one that goes on.
 -- Assumes nothing.
-use mathlib.Core.Path.{◌≡◌, sym, ap, ◌∙◌}
-use mathlib.Core.Bool.{Bool, not, ◌&&◌, cond}
+use mathlib.Core.Path.{◌≡◌, refl, sym, ◌∙◌}
+use mathlib.Core.Bool.{Bool, true, false, cond}
 use mathlib.Core.List.{List}
-use Prim.Native.Nat.{ℕ, ◌+◌, ◌<◌}
+use mathlib.Core.Option.{Option}
+use Prim.Native.Nat.{ℕ, ◌+◌, ◌-◌, ◌≤◌, ◌<◌}
 use native.Mathlib.Omega.{arith}
-use lib.Dec.{leb, ltb}
-use lib.ListN.{length}
-use borrow.Author.Tests.{eq-eqb, ne_eqb, lt-leb, lt-ltb, le-ltb, leb-true, leb-false}
+use lib.Dec.{ltb}
+use lib.ListN.{length, get_or, get_or-eq_default}
+use borrow.Author.Tests.{le-leb, lt-leb, lt-ltb, le-ltb, ltb-true, ltb-false, ne_eqb}
 use Rattle.algebra.proofs.Test.{by_test}
-use Rattle.parameters.specs.Sets.{set_of}
-use Rattle.session_rules.specs.Held.{is_held}
-use Rattle.session_rules.specs.CommandTable.{command_of}
-use Rattle.session_rules.specs.Play.{Session, byte_due, size_due, refusal_due, ends_at, end_command, going_command, command_step}
-use Rattle.session_state.specs.State.{set_held}
-use Rattle.session_state.proofs.State.{params_held}
-use Rattle.session_commands.specs.declared.Form.{Form}
-use Rattle.session_commands.specs.Table.{Entry, entry_of, entry_in}
+use Rattle.refusal.specs.Meaning.{refusal_number, ensured, number_in}
+use Rattle.refusal.specs.declared.Refusal.{Refusal}
+use Rattle.session_rules.specs.Held.{Chosen}
+use Rattle.session_rules.specs.CommandTable.{is_known, command_of, command_table}
+use Rattle.session_rules.specs.Play.{Session, refusal_due, ends_at, end_command, command_step}
+use Rattle.session.specs.Due.{operand_size, refusal_behind}
 
--- a number is at most another, or it is above it
-not-leb : (a b : ℕ) → not (leb a b) ≡ ltb b a
-not-leb a b = by_test (leb a b) (λ e. rw (e, le-ltb b a (leb-true a b e))) (λ e. rw (e, lt-ltb b a (leb-false a b e)))
+-- a refusal has a number
+some_refusal : (r : Refusal) → refusal_number r ≡ 0 → ⊥
+some_refusal r e = grind (arith, e)
 
-module _ (file : List ℕ) (at set : ℕ) (f : Form) (form : entry_of f ≡ entry_in (set_of set) (byte_due file at)) where
-  -- the size of the operand due
-  pub size_due_lem : f.size ≡ size_due file at (set_held set)
-  unfolding entry_in
-  size_due_lem = ap (λ (x : Entry). x.size) form ∙ ap (command_of (byte_due file at)).size (sym (params_held set))
+-- 00 needs no set, and has no operand
+zero_allowed : (behind : ℕ) (set : Option Chosen) → refusal_behind 0 behind set ≡ 0
+unfolding is_known command_of command_table
+zero_allowed behind set = rw (le-ltb behind 0 (omega arith))
 
-  -- the refusal due, by the tests in order
-  pub by_chain : at < length file → (has : Bool) {inside in-set r : ℕ} → inside ≡ cond (not (leb (at + 1 + f.size) (length file))) 13 0
-      → not has ≡ (f.set && not (is_held (set_held set))) → in-set ≡ cond (not has) 3 inside → r ≡ cond (not f.known) 14 in-set
-      → r ≡ refusal_due file at (set_held set)
-  unfolding refusal_due entry_in
-  by_chain l has {inside} {in-set} {r} a b d e =
-      let known = ap (λ (x : Entry). x.known) form in
-      let needs = ap (λ (x : Entry). x.set) form in
-      e ∙ rw (d, b, a, not-leb (at + 1 + f.size) (length file), size_due_lem, known, needs, lt-leb (length file) at l)
+module _ (s : Session) (file : List ℕ) (at : ℕ) where
+  pub none_due : length file ≤ at → command_step s file at ≡ ends_at s 0 13
+  unfolding command_step refusal_due
+  none_due h = rw (le-leb (length file) at h, get_or-eq_default file 0 h)
 
-module _ (s : Session) (file : List ℕ) (at set : ℕ) (chosen : s.held.set ≡ set_held set) where
-  -- a refusal is due
-  pub refuses : (refusal_due file at (set_held set) ≡ 0 → ⊥) → command_step s file at ≡ ends_at s (byte_due file at) (refusal_due file at (set_held set))
-  unfolding command_step
-  refuses n = rw (chosen, ne_eqb (refusal_due file at (set_held set)) 0 n)
+  module _ (inside : at < length file) where
+    -- its byte, and how many bytes are behind it
+    module _ (byte behind : ℕ) (first : byte ≡ get_or file at 0) (is : behind ≡ length file - (at + 1)) where
+      short : (size : ℕ) → ltb (length file) (at + 1 + size) ≡ ltb behind size
+      short size =
+          by_test (ltb (length file) (at + 1 + size))
+          (λ t. t ∙ sym (lt-ltb behind size (omega (arith, is, ltb-true (length file) (at + 1 + size) t))))
+          (λ t. t ∙ sym (le-ltb behind size (omega (arith, is, ltb-false (length file) (at + 1 + size) t))))
 
-  -- none is due: 00, or a command that goes on
-  module _ (none : refusal_due file at (set_held set) ≡ 0) where
-    pub ends : byte_due file at ≡ 0 → command_step s file at ≡ end_command s file at
+      refusal_lem : refusal_due file at s.held.set ≡ refusal_behind byte behind s.held.set
+      unfolding refusal_due
+      refusal_lem = rw (lt-leb (length file) at inside, first, short (operand_size (get_or file at 0) s.held.set))
+
+      pub refused_due : (r : Refusal) → refusal_number r ≡ refusal_behind byte behind s.held.set
+          → command_step s file at ≡ ends_at s byte (refusal_number r)
+      unfolding command_step
+      refused_due r e = rw (refusal_lem, ← e, ← first, ne_eqb (refusal_number r) 0 (some_refusal r))
+
+    pub zero_due : get_or file at 0 ≡ 0 → command_step s file at ≡ end_command s file at
     unfolding command_step
-    ends z = rw (chosen, none, eq-eqb (byte_due file at) 0 z)
+    zero_due z = rw (refusal_lem 0 (length file - (at + 1)) (sym z) refl, z, zero_allowed (length file - (at + 1)) s.held.set)
 
-    pub goes : {size : ℕ} → size ≡ size_due file at (set_held set) → 0 < byte_due file at → command_step s file at ≡ going_command s file at size
-    unfolding command_step
-    goes e n = rw (chosen, none, ne_eqb (byte_due file at) 0 (λ z. omega arith), ← e)
+-- the number of a test
+pub tested : (holds : Bool) (r : Refusal) → number_in (ensured holds r) ≡ cond holds 0 (refusal_number r)
+tested true r = refl
+tested false r = refl

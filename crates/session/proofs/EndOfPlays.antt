@@ -10,14 +10,11 @@ use lib.ListN.{length, length-map}
 use Rattle.algebra.specs.All.{all}
 use Rattle.session_rules.specs.Play.{Session, opened, is_right}
 use Rattle.session_rules.proofs.EveryFileEnds.{every_file_ends}
-use Rattle.session.specs.declared.Session as code
-use Rattle.session.specs.Session.{session_in, session_of}
 use Rattle.session.specs.Turns.{Turn, Turns, lent_by, last_session}
 use Rattle.session.proofs.TurnsByRules.{turns_after}
 
-pub every_file_ends_in_plays : (s : code.Session) → session_of s ≡ opened → (file : List ℕ) (ts : List Turn) → Turns s file ts
-    → T (all is_right (lent_by ts)) → length file + 1 ≤ length ts → (last_session s ts).flags.ended ≡ true
-unfolding session_of session_in
-every_file_ends_in_plays s e file ts h right enough =
-    ap (λ (r : Session). r.ended) (turns_after s e file ts h)
+pub every_file_ends_in_plays : (file : List ℕ) (ts : List Turn) → Turns opened file ts
+    → T (all is_right (lent_by ts)) → length file + 1 ≤ length ts → (last_session opened ts).ended ≡ true
+every_file_ends_in_plays file ts h right enough =
+    ap (λ (r : Session). r.ended) (turns_after file ts h)
     ∙ every_file_ends file (lent_by ts) right (rw (length-map ts (λ (t : Turn). t.buffer_before)) enough)

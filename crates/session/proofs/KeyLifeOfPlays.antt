@@ -2,17 +2,14 @@
 -- commands played and the session that the last play returned are as `KeyLife` says. For each loading of a key and while that key is held, signatures given
 -- plus signatures left equal the number last granted plus those given before that grant, and what is left decides 17.
 -- Assumes nothing.
-use mathlib.Core.Path.{◌≡◌}
 use mathlib.Core.List.{List}
 use Prim.Native.Nat.{ℕ}
 use Rattle.session_rules.specs.Play.{opened}
 use Rattle.session_rules.specs.KeyLife.{KeyLife}
 use Rattle.session_rules.proofs.KeyLife.{key_life}
-use Rattle.session.specs.declared.Session as code
-use Rattle.session.specs.Session.{session_of}
 use Rattle.session.specs.Turns.{Turn, Turns, lent_by, last_session, turn_events}
 use Rattle.session.proofs.TurnsByRules.{turns_by_rules, turns_after}
 
-pub key_life_in_plays : (s : code.Session) → session_of s ≡ opened → (file : List ℕ) (ts : List Turn) → Turns s file ts
-    → KeyLife (turn_events s file ts) (session_of (last_session s ts)).held
-key_life_in_plays s e file ts h = rw (turns_by_rules s e file ts h, turns_after s e file ts h) (key_life file (lent_by ts))
+pub key_life_in_plays : (file : List ℕ) (ts : List Turn) → Turns opened file ts
+    → KeyLife (turn_events opened file ts) (last_session opened ts).held
+key_life_in_plays file ts h = rw (turns_by_rules file ts h, turns_after file ts h) (key_life file (lent_by ts))

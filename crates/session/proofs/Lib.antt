@@ -1,6 +1,5 @@
 mod Due
-mod Going
-mod RowCount
+mod RowSize
 mod RowText
 pub mod TurnsByRules
 pub mod Whole

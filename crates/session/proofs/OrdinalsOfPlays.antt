@@ -9,14 +9,12 @@ use lib.ListN.{length}
 use Rattle.session_rules.specs.Play.{Session, opened, step}
 use Rattle.session_rules.specs.Ordinals.{Numbered}
 use Rattle.session_rules.proofs.Ordinals.{ordinals_count}
-use Rattle.session.specs.declared.Session as code
-use Rattle.session.specs.Session.{session_of}
 use Rattle.session.specs.Turns.{Turn, Turns, lent_by, last_session, turn_events}
 use Rattle.session.proofs.TurnsByRules.{turns_by_rules, turns_after}
 
-pub ordinals_count_in_plays : (s : code.Session) → session_of s ≡ opened → (file : List ℕ) (ts : List Turn) → Turns s file ts
-    → (session_of (last_session s ts)).ended ≡ false
-    → Numbered (session_of (last_session s ts)) file (length (turn_events s file ts)) (step (session_of (last_session s ts)) file)
-ordinals_count_in_plays s e file ts h goes =
-    let last = turns_after s e file ts h in
-    rw (last, turns_by_rules s e file ts h) (ordinals_count file (lent_by ts) (sym (ap (λ (r : Session). r.ended) last) ∙ goes))
+pub ordinals_count_in_plays : (file : List ℕ) (ts : List Turn) → Turns opened file ts
+    → (last_session opened ts).ended ≡ false
+    → Numbered (last_session opened ts) file (length (turn_events opened file ts)) (step (last_session opened ts) file)
+ordinals_count_in_plays file ts h goes =
+    let last = turns_after file ts h in
+    rw (last, turns_by_rules file ts h) (ordinals_count file (lent_by ts) (sym (ap (λ (r : Session). r.ended) last) ∙ goes))

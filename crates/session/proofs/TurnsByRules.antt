@@ -1,5 +1,5 @@
 -- Any plays of the code, from a session just opened, are plays by the rules with the same row buffers: the commands played are the same, and the session
--- that the last play returned means the session after them. So what session_rules proves of `events` and `after` (`every_file_ends`, `held_is_read`,
+-- that the last play left is the session after them. So what session_rules proves of `events` and `after` (`every_file_ends`, `held_is_read`,
 -- `ordinals_count`) holds of the code's plays and sessions.
 -- Assumes nothing.
 use mathlib.Core.Path.{◌≡◌, refl, ap, ap₂, ◌∙◌}
@@ -8,29 +8,25 @@ use Prim.Native.Nat.{ℕ}
 use Rattle.session_rules.specs.Play.{Session, Outcome, opened}
 use Rattle.session_rules.specs.Plays.{Event, event_of, events_from, events}
 use Rattle.session_rules.specs.After.{after}
-use Rattle.session.specs.declared.Session as code
-use Rattle.session.specs.Session.{session_of}
 use Rattle.session.specs.Turns.{Turn, Turns, lent_by, last_session, turn_events}
 
-by_rules : (s : code.Session) (file : List ℕ) (ts : List Turn) → Turns s file ts → turn_events s file ts ≡ events_from (session_of s) file (lent_by ts)
+by_rules : (s : Session) (file : List ℕ) (ts : List Turn) → Turns s file ts → turn_events s file ts ≡ events_from s file (lent_by ts)
 unfolding turn_events events_from
 by_rules s file [] h = refl
 by_rules s file (t ∷ ts) h =
-    ap₂ (λ (a b : List Event). a ++ b) (ap (event_of (session_of s) file) h.0)
-    (by_rules t.played.session file ts h.1 ∙ ap (λ (o : Outcome). events_from o.session file (lent_by ts)) h.0)
+    ap₂ (λ (a b : List Event). a ++ b) (ap (event_of s file) h.0)
+    (by_rules t.session file ts h.1 ∙ ap (λ (o : Outcome). events_from o.session file (lent_by ts)) h.0)
 
 -- the commands played
-pub turns_by_rules : (s : code.Session) → session_of s ≡ opened → (file : List ℕ) (ts : List Turn) → Turns s file ts
-    → turn_events s file ts ≡ events file (lent_by ts)
+pub turns_by_rules : (file : List ℕ) (ts : List Turn) → Turns opened file ts → turn_events opened file ts ≡ events file (lent_by ts)
 unfolding events
-turns_by_rules s e file ts h = by_rules s file ts h ∙ ap (λ (r : Session). events_from r file (lent_by ts)) e
+turns_by_rules file ts h = by_rules opened file ts h
 
-after_from : (s : code.Session) (file : List ℕ) (ts : List Turn) → Turns s file ts → session_of (last_session s ts) ≡ after (session_of s) file (lent_by ts)
+after_from : (s : Session) (file : List ℕ) (ts : List Turn) → Turns s file ts → last_session s ts ≡ after s file (lent_by ts)
 unfolding last_session after
 after_from s file [] h = refl
-after_from s file (t ∷ ts) h = after_from t.played.session file ts h.1 ∙ ap (λ (o : Outcome). after o.session file (lent_by ts)) h.0
+after_from s file (t ∷ ts) h = after_from t.session file ts h.1 ∙ ap (λ (o : Outcome). after o.session file (lent_by ts)) h.0
 
 -- the session after them
-pub turns_after : (s : code.Session) → session_of s ≡ opened → (file : List ℕ) (ts : List Turn) → Turns s file ts
-    → session_of (last_session s ts) ≡ after opened file (lent_by ts)
-turns_after s e file ts h = after_from s file ts h ∙ ap (λ (r : Session). after r file (lent_by ts)) e
+pub turns_after : (file : List ℕ) (ts : List Turn) → Turns opened file ts → last_session opened ts ≡ after opened file (lent_by ts)
+turns_after file ts h = after_from opened file ts h

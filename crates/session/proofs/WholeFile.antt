@@ -5,6 +5,7 @@
 -- Assumes nothing.
 use mathlib.Core.List.{List}
 use Prim.Native.Nat.{ℕ}
+use Rattle.session_rules.specs.Play.{Session, opened}
 use Rattle.session_rules.specs.Plays.{Event, no_material}
 use Rattle.session_rules.specs.FilePlayed.{LastRow}
 use Rattle.session_rules.specs.HeldIsRead.{none_available}
@@ -14,8 +15,6 @@ use Rattle.session_rules.specs.PrintedEvaluations.{EachEvaluations}
 use Rattle.session_rules.specs.KeysHidden.{KeysHidden}
 use Rattle.session_rules.specs.KeyLife.{KeyLife}
 use Rattle.session_rules.specs.RuleInForce.{RuleInForce}
-use Rattle.session.specs.declared.Session as code
-use Rattle.session.specs.Session.{session_of}
 use Rattle.session.specs.Turns.{turn_events}
 use Rattle.session.specs.WholeFile.{PlayedWhole}
 use Rattle.session.proofs.FileOfPlays.{plays_are_the_file}
@@ -26,30 +25,30 @@ use Rattle.session.proofs.HidingOfPlays.{hiding_of_plays}
 use Rattle.session.proofs.KeyLifeOfPlays.{key_life_in_plays}
 use Rattle.session.proofs.RuleOfPlays.{rule_in_force_in_plays}
 
-module _ (file : List ℕ) (s : code.Session) (w : PlayedWhole file s) where
+module _ (file : List ℕ) (s : Session) (w : PlayedWhole file s) where
   -- the commands that were played
   abbrev pub whole_events : List Event
-  whole_events = let p = w.played in turn_events p.first file p.turns
+  whole_events = let p = w.played in turn_events opened file p.turns
 
   pub whole_file_read : LastRow file whole_events
   whole_file_read =
       let p = w.played in
-      (plays_are_the_file p.first p.opens file p.turns p.allowed).ends (rw p.last w.ended)
+      (plays_are_the_file file p.turns p.allowed).ends (rw p.last w.ended)
 
   pub whole_file_evaluations : EachEvaluations no_material none_available whole_events
-  whole_file_evaluations = let p = w.played in evaluations_printed_in_plays p.first p.opens file p.turns p.allowed
+  whole_file_evaluations = let p = w.played in evaluations_printed_in_plays file p.turns p.allowed
 
   pub whole_file_signs_by_first : EachSignsByFirst no_material whole_events
-  whole_file_signs_by_first = let p = w.played in first_passing_signs_in_plays p.first p.opens file p.turns p.allowed
+  whole_file_signs_by_first = let p = w.played in first_passing_signs_in_plays file p.turns p.allowed
 
   pub whole_file_verdicts : EachVerdict no_material none_available whole_events
-  whole_file_verdicts = let p = w.played in verdicts_by_the_rule_in_plays p.first p.opens file p.turns p.allowed
+  whole_file_verdicts = let p = w.played in verdicts_by_the_rule_in_plays file p.turns p.allowed
 
   pub whole_file_hides : KeysHidden whole_events
-  whole_file_hides = let p = w.played in hiding_of_plays p.first p.opens file p.turns p.allowed
+  whole_file_hides = let p = w.played in hiding_of_plays file p.turns p.allowed
 
-  pub whole_file_key_life : KeyLife whole_events (session_of s).held
-  whole_file_key_life = let p = w.played in rw p.last at (key_life_in_plays p.first p.opens file p.turns p.allowed)
+  pub whole_file_key_life : KeyLife whole_events s.held
+  whole_file_key_life = let p = w.played in rw p.last at (key_life_in_plays file p.turns p.allowed)
 
-  pub whole_file_rule : RuleInForce whole_events (session_of s).held
-  whole_file_rule = let p = w.played in rw p.last at (rule_in_force_in_plays p.first p.opens file p.turns p.allowed)
+  pub whole_file_rule : RuleInForce whole_events s.held
+  whole_file_rule = let p = w.played in rw p.last at (rule_in_force_in_plays file p.turns p.allowed)

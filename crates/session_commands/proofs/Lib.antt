@@ -1,8 +1,7 @@
-mod InForce
-mod Lent
-mod LookedUp
-mod MaskList
-mod Operand
-mod Readiness
-mod Shifting
-mod SigningCall
+pub mod Front
+pub mod Masks
+pub mod Residues
+pub mod KeyLoaded
+pub mod Checked
+pub mod Signed
+pub mod Clauses

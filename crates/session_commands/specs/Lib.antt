@@ -1,3 +1,4 @@
-pub mod Asks
+pub mod Room
+pub mod View
+pub mod Outcome
 pub mod Table
-pub mod ByRules

@@ -25,9 +25,9 @@ use Rattle.encoding.specs.Challenge.{are_entries}
 use Rattle.encoding.specs.Encoding.{is_key_byte, key_coefficient, are_exponents, are_evaluations, public_key, entries_in}
 use Rattle.encoding.proofs.Parts.{length-numbers}
 use Rattle.refusal.specs.Numbers.{none_passes, not_held, none_left}
-use Rattle.refusal.specs.declared.Signing.{Signing}
-use Rattle.refusal.specs.declared.Signing.TheVariants as signing
-use Rattle.refusal.specs.declared.Verdict.{Verdict}
+use Rattle.refusal.specs.Signing.{Signing}
+use Rattle.refusal.specs.Signing as signing
+use Rattle.refusal.specs.Verdict.{Verdict}
 use Rattle.signing.specs.Sign.{sign_answer, sign_written}
 use Rattle.checking.specs.Check.{verdict_after, check_answer}
 use Rattle.passign.specs.Hiding.{our_library}

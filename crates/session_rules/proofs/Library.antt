@@ -25,7 +25,7 @@ use Rattle.encoding.specs.Encoding.{is_key, key_of, secret_key_size, public_key,
 use Rattle.scheme.specs.Scheme.{Signed, verdict}
 use Rattle.encoding.specs.Bytes.{parts}
 use Rattle.signing.specs.Signer.{masks_of, mask_at, signed_by}
-use Rattle.refusal.specs.declared.Signing.TheVariants as signing
+use Rattle.refusal.specs.Signing as signing
 use Rattle.signing.specs.Sign.{are_masks, sign_refusal_in, sign_refusal, signed_answer, sign_answer}
 use Rattle.checking.specs.Check.{body_read, check_refusal_of, verdict_after, answer_on, check_answer}
 use Rattle.checking.proofs.Encoded.{encoded_answer}

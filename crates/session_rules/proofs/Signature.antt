@@ -16,7 +16,7 @@ use Rattle.encoding.specs.Challenge.{entries_of}
 use Rattle.encoding.specs.Encoding.{signature_bytes}
 use Rattle.scheme.specs.Scheme.{Signed, Signature}
 use Rattle.signing.specs.Signer.{signature_of}
-use Rattle.refusal.specs.declared.Signing.TheVariants as signing
+use Rattle.refusal.specs.Signing as signing
 use Rattle.refusal.specs.Answer.{set_byte}
 use Rattle.passign.specs.Hiding.{Call, our_library}
 use Rattle.signing.proofs.AcceptedSigning.{SignedAs, accepted_signing, signed_bytes_lem}

@@ -11,13 +11,13 @@ use Rattle.parameters.specs.Sets.{set_of}
 use Rattle.challenge.specs.Draw.{draw_challenge}
 use Rattle.encoding.specs.Encoding.{key_in, key_of}
 use Rattle.scheme.specs.Scheme.{Signed, signing}
-use Rattle.refusal.specs.declared.Signing.TheVariants as answer
+use Rattle.refusal.specs.Signing as answer
 use Rattle.scheme.proofs.FirstPassing.{first_passing_lem}
 use Rattle.signing.specs.Signer.{masks_of, signature_of, signed_by}
 use Rattle.signing.specs.Sign.{sign_refusal, written_after, sign_answer, sign_written}
 use Rattle.signing.proofs.AcceptedSigning.{accepted}
 use Rattle.signing.proofs.OfferedMasks.{masks_count}
-use Rattle.refusal.proofs.Refusal.{equal_iff}
+use Rattle.refusal.proofs.Chain.{equal_iff}
 use Rattle.passign.proofs.FirstPassing.{entry_none_signs}
 use Rattle.session_rules.specs.Commands.{signature_room}
 use Rattle.session_rules.specs.Play.{Session, step, row_of}

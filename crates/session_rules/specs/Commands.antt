@@ -13,10 +13,10 @@ use Rattle.challenge.specs.Pool.{is_rule}
 use Rattle.encoding.specs.Bytes.{value_of, numbers, signed16}
 use Rattle.encoding.specs.Encoding.{is_key_byte, key_coefficient, are_exponents, are_evaluations, public_key, signature_size}
 use Rattle.refusal.specs.Numbers.{wrong_set, no_set, wrong_exponents, wrong_key, wrong_mask, wrong_evaluation, too_many_masks, none_passes, not_held, none_left, wrong_rule}
-use Rattle.refusal.specs.declared.Signing.{Signing}
-use Rattle.refusal.specs.declared.Signing.TheVariants as signing
-use Rattle.refusal.specs.declared.Verdict.{Verdict}
-use Rattle.refusal.specs.declared.Verdict.TheVariants as verdict
+use Rattle.refusal.specs.Signing.{Signing}
+use Rattle.refusal.specs.Signing as signing
+use Rattle.refusal.specs.Verdict.{Verdict}
+use Rattle.refusal.specs.Verdict as verdict
 use Rattle.signing.specs.Sign.{sign_answer, sign_written}
 use Rattle.checking.specs.Check.{check_answer}
 use Rattle.session_rules.specs.Held.{Chosen, HeldKey, first_grant, Held, given, bytes_of, left_of, only_set}

@@ -8,8 +8,8 @@ use Rattle.parameters.specs.declared.Params.{Params}
 use Rattle.parameters.specs.Sets.{set_of}
 use Rattle.challenge.specs.Pool.{low_byte_rule}
 use Rattle.encoding.specs.Bytes.{numbers}
-use Rattle.refusal.specs.declared.Signing.{Signing}
-use Rattle.refusal.specs.declared.Signing.TheVariants as signing
+use Rattle.refusal.specs.Signing.{Signing}
+use Rattle.refusal.specs.Signing as signing
 use Rattle.refusal.specs.Numbers.{none_passes}
 use Rattle.passign.specs.Hiding.{Call, our_library, SigningRecord}
 use Rattle.session_rules.specs.Held.{Chosen, params_of}

@@ -1,66 +1,59 @@
--- The blocks that the code fills: bytes written into a block, and the one or two blocks that end a message.
+-- The blocks that the code fills: bytes put into a block, and the one or two blocks that end a message; and the bytes of a digest.
 -- Assumes nothing.
-use Rattle.std.proofs.Common.{◌≡◌, ℕ, ◌+◌, ◌-◌, ◌*◌, ◌/◌, ◌%◌, ◌^◌, ◌<◌, ◌≤◌, List, [], ◌∷◌, ◌++◌, length, take, drop, replicate, sym, refl, ap, ◌∙◌, ap₂, append_assoc, append-nil, zero-add, arith, length-append, drop_of_length-le, length-take-le, drop-drop, take_at, drop_at}
-use lib.ListN.{length-replicate, replicate-append-replicate}
-use lib.Seq.{sets-eq, length-sets, take-append_seam, drop-append-add}
-use Rattle.sha512.specs.Bytes.{bytes8, bytes16, written}
+use Rattle.std.proofs.Common.{◌≡◌, ℕ, ◌+◌, ◌-◌, ◌*◌, ◌/◌, ◌%◌, ◌^◌, ◌<◌, ◌≤◌, List, [], ◌∷◌, ◌++◌, length, take, drop, replicate, w64, get_or, refl, sym, ap, ◌∙◌, ap₂, append_assoc, append-nil, shr-shr, add-one, arith, length-append, drop_of_length-le, take_at, drop_at}
+use Rattle.std.proofs.lemmas.List.{length-replicate, replicate-append-replicate, drop-drop, drop-replicate}
+use Rattle.std.proofs.lemmas.Slice.{take-put_mid}
+use Rattle.std.specs.Int.{w128, to_be_bytes}
+use borrow.Rule.Slice.PartMut.{put_mid}
+use Rattle.sha512.specs.Bytes.{bytes16}
 use Rattle.sha512.specs.Padding.{zeros, ending}
+use Rattle.sha512.specs.Digest.{bytes_of}
 
--- ---- bytes written into a list
+-- ---- bytes put into a block
 
-module _ (d : List ℕ) (i : ℕ) (s : List ℕ) (fits : i + length s ≤ length d) where
-  length-written : length (written d i s) ≡ length d
-  length-written = ap length (sym (sets-eq s d i fits)) ∙ length-sets d i s
-
-  pub take-written : (u : ℕ) → u ≡ i + length s → take u (written d i s) ≡ take i d ++ s
-  take-written u e =
-      take_at (take i d ++ s) (drop (i + length s) d) u
-      (length-append (take i d) s ∙ ap (λ (k : ℕ). k + length s) (length-take-le i d (omega arith)) ∙ sym e)
-
-  -- bytes written at the end
-  written_last : i + length s ≡ length d → written d i s ≡ take i d ++ s
-  written_last e = ap (λ (r : List ℕ). take i d ++ s ++ r) (drop_of_length-le d {i = i + length s} (omega arith)) ∙ append-nil (take i d ++ s)
-
--- the bytes of two lists written at the front, one after the other
-two_written : (z f b : List ℕ) → written (written z 0 f) (length f) b ≡ f ++ b ++ drop (length f + length b) z
-two_written z f b =
-    rw (
-      zero-add (length f),
-      take-append_seam f (drop (length f) z),
-      drop-append-add f (drop (length f) z) (length b),
-      drop-drop (length b) (length f) z,
-    )
-
-drop-replicate : (m n a : ℕ) → m ≤ n → drop m (replicate n a) ≡ replicate (n - m) a
-drop-replicate m n a h =
-    let e : n ≡ m + (n - m) = omega arith in
-    ap (λ (k : ℕ). drop m (replicate k a)) e
-    ∙ ap (drop m) (sym (replicate-append-replicate m (n - m) a))
-    ∙ drop_at (replicate m a) (replicate (n - m) a) m (length-replicate m a)
-
-pub filled_is : (f b x y : List ℕ) → length f + length b ≤ 128 → x ≡ written (replicate 128 0) 0 f → y ≡ written x (length f) b
-    → y ≡ f ++ b ++ replicate (128 - (length f + length b)) 0
+-- x stands in front of zeros, and y after it
+pub filled_is : (f b x y : List ℕ) → length f + length b ≤ 128 → x ≡ f → y ≡ b
+    → put_mid (length f) (length f + length b - length f) (x ++ drop (length f) (replicate 128 0)) y ≡ f ++ b ++ replicate (128 - (length f + length b)) 0
 filled_is f b x y h e g =
-    g ∙ rw e (two_written (replicate 128 0) f b ∙ ap (λ (r : List ℕ). f ++ b ++ r) (drop-replicate (length f + length b) 128 0 h))
+    let k : length f + (length f + length b - length f) ≡ length f + length b = omega arith in
+    rw (
+      e,
+      g,
+      take_at {A = ℕ} f (drop (length f) (replicate 128 0)) (length f) refl,
+      drop_at {A = ℕ} f (drop (length f) (replicate 128 0)) (length f) refl,
+      drop-drop {A = ℕ} (length f + length b - length f) (length f) (replicate 128 0),
+      k,
+      drop-replicate {X = ℕ} (length f + length b) 128 0,
+    )
+    (sym (append_assoc f b _))
 
--- ---- the length at a block's end
-
--- the high word of the length in bits at 112, the low one at 120
-pub with_length_is : (block high low x y : List ℕ) (n : ℕ) → length block ≡ 128 → high ≡ bytes8 (n / 2 ^ 61) → low ≡ bytes8 (n % 2 ^ 61 * 8)
-    → x ≡ written block 112 high → y ≡ written x 120 low → y ≡ take 112 block ++ bytes16 (8 * n)
+-- a number as sixteen bytes is its two words as eight
+bytes16_is : (n : ℕ) → to_be_bytes w128 n ≡ bytes16 n
 unfolding bytes16
-with_length_is block high low x y n l h k e g =
-    let i : n / 2 ^ 61 ≡ 8 * n / 2 ^ 64 = omega arith in
-    let j : n % 2 ^ 61 * 8 ≡ 8 * n % 2 ^ 64 = omega arith in
-    let a : List ℕ = bytes8 (8 * n / 2 ^ 64) in
-    let b : List ℕ = bytes8 (8 * n % 2 ^ 64) in
-    let f : 112 + length a ≤ length block = omega arith in
-    let m : length (written block 112 a) ≡ length block = length-written block 112 a f in
-    g
-    ∙ ap₂ (λ (r s : List ℕ). written r 120 s) (e ∙ ap (written block 112) (h ∙ ap bytes8 i)) (k ∙ ap bytes8 j)
-    ∙ written_last (written block 112 a) 120 b (omega arith) (omega arith)
-    ∙ ap (λ (r : List ℕ). r ++ b) (take-written block 112 a f 120 refl)
-    ∙ append_assoc (take 112 block) a b
+bytes16_is n =
+    let b7 : n / 2 ^ 56 % 256 ≡ n % 2 ^ 64 / 2 ^ 56 % 256 = omega arith in
+    let b6 : n / 2 ^ 48 % 256 ≡ n % 2 ^ 64 / 2 ^ 48 % 256 = omega arith in
+    let b5 : n / 2 ^ 40 % 256 ≡ n % 2 ^ 64 / 2 ^ 40 % 256 = omega arith in
+    let b4 : n / 2 ^ 32 % 256 ≡ n % 2 ^ 64 / 2 ^ 32 % 256 = omega arith in
+    let b3 : n / 2 ^ 24 % 256 ≡ n % 2 ^ 64 / 2 ^ 24 % 256 = omega arith in
+    let b2 : n / 2 ^ 16 % 256 ≡ n % 2 ^ 64 / 2 ^ 16 % 256 = omega arith in
+    let b1 : n / 2 ^ 8 % 256 ≡ n % 2 ^ 64 / 2 ^ 8 % 256 = omega arith in
+    let b0 : n % 256 ≡ n % 2 ^ 64 % 256 = omega arith in
+    rw (shr-shr n 64 56, shr-shr n 64 48, shr-shr n 64 40, shr-shr n 64 32, shr-shr n 64 24, shr-shr n 64 16, shr-shr n 64 8) cc
+
+-- the length in bits at a block's end
+pub with_length_is : (block bits : List ℕ) (n : ℕ) → length block ≡ 128 → bits ≡ to_be_bytes w128 n → put_mid 112 16 block bits ≡ take 112 block ++ bytes16 n
+with_length_is block bits n l e =
+    let none : drop 16 (drop 112 block) ≡ [] = drop-drop 16 112 block ∙ drop_of_length-le block {i = 128} (omega arith) in
+    rw (none, append-nil, e, bytes16_is n)
+
+-- the bytes of one word more
+pub bytes_more : (out h x : List ℕ) (i : ℕ) → length out ≡ 64 → i < 8 → take (8 * i) out ≡ bytes_of i h → x ≡ to_be_bytes w64 (get_or h i 0)
+    → take (8 * (i + 1)) (put_mid (8 * i) (8 * i + 8 - 8 * i) out x) ≡ bytes_of (i + 1) h
+unfolding bytes_of
+bytes_more out h x i l b e q =
+    let n : 8 * (i + 1) ≡ 8 * i + length x = omega (arith, ap length q) in
+    take-put_mid (8 * i) (8 * i + 8 - 8 * i) out x (8 * (i + 1)) n (omega arith) ∙ rw add-one (ap₂ (λ (s t : List ℕ). s ++ t) e q)
 
 -- ---- the blocks that end a message of n bytes, of which the whole blocks leave t
 

@@ -1,6 +1,6 @@
--- FIPS 180-4, section 3.1: numbers as bytes, high byte first; and bytes written into a list of bytes.
+-- FIPS 180-4, section 3.1: numbers as bytes, high byte first.
 -- Assumes nothing.
-use Rattle.std.specs.Prelude.{ℕ, ◌+◌, ◌*◌, ◌/◌, ◌%◌, ◌^◌, List, [], ◌∷◌, ◌++◌, length, take, drop, slice_index}
+use Rattle.std.specs.Prelude.{ℕ, ◌+◌, ◌*◌, ◌/◌, ◌%◌, ◌^◌, List, [], ◌∷◌, ◌++◌, slice_index}
 
 -- the number whose four bytes stand in b from i on
 abbrev pub half_at : List ℕ → ℕ → ℕ
@@ -19,7 +19,3 @@ bytes8 x =
 -- a number below 2 ^ 128 as sixteen bytes
 unfoldable pub bytes16 : ℕ → List ℕ
 bytes16 x = bytes8 (x / 2 ^ 64) ++ bytes8 (x % 2 ^ 64)
-
--- d with the bytes s in the place of its own from i on
-abbrev pub written : List ℕ → ℕ → List ℕ → List ℕ
-written d i s = take i d ++ s ++ drop (i + length s) d

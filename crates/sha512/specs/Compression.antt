@@ -42,11 +42,6 @@ unfoldable pub rounds : ℕ → List ℕ → List ℕ → List ℕ
 rounds zero w s = s
 rounds (suc t) w s = round (slice_index round_constants t) (slice_index w t) (rounds t w s)
 
--- n rounds, from round t on
-unfoldable pub rounds_from : ℕ → ℕ → List ℕ → List ℕ → List ℕ
-rounds_from t zero w s = s
-rounds_from t (suc n) w s = round (slice_index round_constants (t + n)) (slice_index w (t + n)) (rounds_from t n w s)
-
 -- the first n words of two hash values, added place by place
 unfoldable pub sums : ℕ → List ℕ → List ℕ → List ℕ
 sums zero s h = []

@@ -2,80 +2,76 @@
 // two lines for each message, its digest whole and in two parts. The stored output is that of Python's hashlib, not of this program.
 #![tactic(auto)]
 
-ghost use Rattle.std.specs.Prelude.{◌≡◌, ◌≤◌, length};
+ghost use Rattle.std.specs.Prelude.{◌≡◌, ◌≤◌, length, true, nat_le, ◌&&◌};
+ghost use Rattle.std.specs.List.{list_all};
 
 use sha512::{sha512, sha512_of_two};
+use std::io;
 
-const STDOUT_FILENO: i32 = 1;
+// FIPS 180-4's examples, and where each is parted.
+const EXAMPLES: [(&[u8], usize); 3] = [
+    (b"abc", 1),
+    (b"", 0),
+    (
+        b"abcdefghbcdefghicdefghijdefghijkefghijklfghijklmghijklmnhijklmnoijklmnopjklmnopqklmnopqrlmnopqrsmnopqrstnopqrstu",
+        100,
+    ),
+];
+
+// How many bytes `a` there are at most.
+const MOST: usize = 66559;
+
+// Lengths and where they are parted: seven whose padding leaves one block, six whose padding makes two, and longer ones.
+const LENGTHS: [(usize, usize); 18] = [
+    (0, 0),
+    (1, 1),
+    (55, 0),
+    (56, 56),
+    (63, 31),
+    (64, 32),
+    (111, 64),
+    (112, 64),
+    (119, 112),
+    (120, 8),
+    (127, 126),
+    (128, 127),
+    (239, 128),
+    (240, 120),
+    (255, 127),
+    (256, 128),
+    (664, 600),
+    (66559, 1000),
+];
 
 // Prints a digest in hex, and a line feed.
-fn print_digest(digest: [u8; 64]) {
-    let mut i = 0;
-    while i < 64 {
-        io::print_hex(STDOUT_FILENO, digest[i] as u64, 2);
-        i += 1;
+fn print_digest(rt: &impl Print, digest: &[u8; 64]) -> io::Result<()> {
+    for byte in digest {
+        print!(rt; "{byte:02x}")?;
     }
-    io::write_all(STDOUT_FILENO, b"\n");
+    println!(rt;)
 }
 
-// The first n bytes of a message, whole and parted at `at`.
-fn print_both(message: &[u8], n: usize, at: usize)
-    requires { (at ≤ n) × (n ≤ length message.now) }
+// Prints the digest of a message, whole and parted at `at`.
+fn print_both(rt: &impl Print, message: &[u8], at: usize) -> io::Result<()>
+    requires { at ≤ length message.now }
 {
-    print_digest(sha512(&message[..n]));
-    print_digest(sha512_of_two(&message[..at], &message[at..n]));
+    print_digest(rt, &sha512(message))?;
+    print_digest(rt, &sha512_of_two(&message[..at], &message[at..]))
 }
 
-fn print_examples() {
-    print_both(b"abc", 3, 1);
-    print_both(b"", 0, 0);
-    print_both(
-        b"abcdefghbcdefghicdefghijdefghijkefghijklfghijklmghijklmnhijklmnoijklmnopjklmnopqklmnopqrlmnopqrsmnopqrstnopqrstu",
-        112,
-        100,
-    );
-}
-
-// Lengths whose padding leaves one block.
-fn print_one_block(a: &[u8])
-    requires { length a.now ≡ 66559 }
+// Prints both digests of the first bytes of a message, for each length and place to part it at.
+fn print_lengths(rt: &impl Print, message: &[u8], lengths: &[(usize, usize)]) -> io::Result<()>
+    requires { list_all (λ p. nat_le p.1 p.0 && nat_le p.0 (length message.now)) lengths.now ≡ true }
 {
-    print_both(a, 0, 0);
-    print_both(a, 1, 1);
-    print_both(a, 55, 0);
-    print_both(a, 56, 56);
-    print_both(a, 63, 31);
-    print_both(a, 64, 32);
-    print_both(a, 111, 64);
+    for (length, at) in lengths {
+        print_both(rt, &message[..*length], *at)?;
+    }
+    Ok(())
 }
 
-// Lengths whose padding makes two blocks.
-fn print_two_blocks(a: &[u8])
-    requires { length a.now ≡ 66559 }
-{
-    print_both(a, 112, 64);
-    print_both(a, 119, 112);
-    print_both(a, 120, 8);
-    print_both(a, 127, 126);
-    print_both(a, 128, 127);
-    print_both(a, 239, 128);
-}
-
-// Longer ones.
-fn print_more_blocks(a: &[u8])
-    requires { length a.now ≡ 66559 }
-{
-    print_both(a, 240, 120);
-    print_both(a, 255, 127);
-    print_both(a, 256, 128);
-    print_both(a, 664, 600);
-    print_both(a, 66559, 1000);
-}
-
-fn main() {
-    print_examples();
-    let a = [97u8; 66559];
-    print_one_block(&a);
-    print_two_blocks(&a);
-    print_more_blocks(&a);
+fn main(rt: HostRuntime) -> io::Result<()> {
+    for (message, at) in EXAMPLES {
+        print_both(&rt, message, at)?;
+    }
+    print_lengths(&rt, &[b'a'; MOST], &LENGTHS)
 }

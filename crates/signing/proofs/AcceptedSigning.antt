@@ -18,11 +18,11 @@ use Rattle.scheme.proofs.Attempt.{PassingMask, attempt_iff}
 use Rattle.scheme.proofs.FirstPassing.{first_passing_lem}
 use Rattle.signing.specs.Signer.{offered_count, masks_of, mask_at, signature_of, signed_by}
 use Rattle.signing.proofs.OfferedMasks.{masks_count, mask_at_lem}
-use Rattle.refusal.specs.declared.Signing.TheVariants as answer
+use Rattle.refusal.specs.Signing as answer
 use Rattle.refusal.specs.Answer.{set_byte}
 use Rattle.signing.specs.Sign.{sign_refusal_in, signed_answer, signing_after, sign_answer_in, sign_written_in}
 use Rattle.refusal.proofs.Apart.{refused_not_signed}
-use Rattle.refusal.proofs.Refusal.{chosen, equal_iff}
+use Rattle.refusal.proofs.Chain.{chosen, equal_iff}
 use Rattle.signing.proofs.Allowed.{SignAllowed, sign_allowed}
 use Rattle.encoding.proofs.EncodedKey.{key_size}
 

@@ -13,7 +13,7 @@ use Rattle.parameters.specs.declared.Params.{Params}
 use Rattle.challenge.specs.Pool.{is_rule}
 use Rattle.encoding.specs.Encoding.{secret_key_size, signature_size, is_key, are_exponents}
 use Rattle.signing.specs.Sign.{are_masks, sign_lengths, sign_refusal_in}
-use Rattle.refusal.proofs.Refusal.{step, end, equal_iff}
+use Rattle.refusal.proofs.Chain.{step, end, equal_iff}
 
 module _ (rule : ℕ) (p : Params) (key exponents : List ℕ) (masks : List ℤ) (room : ℕ) where
   -- a signing is not refused before its masks are tried

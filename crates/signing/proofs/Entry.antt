@@ -12,8 +12,8 @@ use Rattle.parameters.specs.declared.Params.{Params}
 use Rattle.challenge.specs.Draw.{draw_challenge}
 use Rattle.refusal.specs.Numbers.{wrong_length}
 use Rattle.refusal.specs.Answer.{set_in, is_long}
-use Rattle.refusal.proofs.Refusal.{passed}
-use Rattle.refusal.proofs.SetRefusal.{HasSet, set_refusal, no_set_lem, in_a_set, in_a_set_iff}
+use Rattle.refusal.proofs.Chain.{passed}
+use Rattle.refusal.proofs.SetRefusal.{HasSet, in_a_set, in_a_set_iff}
 use Rattle.signing.specs.Sign.{sign_refusal_in, sign_refusal, sign_answer_in, sign_written_in, sign_answer, sign_written}
 
 -- the message is not too long, and the key has a set
@@ -32,11 +32,6 @@ module _ (rule : ℕ) (key exponents : List ℕ) (masks : List ℤ) (message out
   known_iff =
       let tests = passed (is_long message) {a = wrong_length} (λ e. omega arith) (in_a_set_iff key refusal) in
       (λ e. let h = tests.0 e in (record { short = h.0; set = h.1.0 }, h.1.1), λ h. tests.1 (h.0.short, (h.0.set, h.1)))
-
-  -- a key with no set
-  pub set_refused : is_long message ≡ false → (set_refusal key ≡ 0 → ⊥) → sign_refusal rule key exponents masks message out ≡ set_refusal key
-  unfolding sign_refusal
-  set_refused short h = rw short (no_set_lem key refusal h)
 
   module _ (k : Known key message) where
     known_refusal : sign_refusal rule key exponents masks message out ≡ sign_refusal_in rule (set_in key) key exponents masks (length out)

@@ -1,7 +1,6 @@
 -- The masks offered in turn: what signing gives from mask i on, and what one mask more decides.
 -- Assumes nothing.
 use mathlib.Core.Path.{◌≡◌, refl, sym, ap, ap₂, ◌∙◌}
-use mathlib.Core.Bool.{Bool, true, false}
 use mathlib.Core.List.{List, ◌∷◌}
 use mathlib.Core.Option.{Option, none, some}
 use Prim.Native.Nat.{ℕ, suc, ◌+◌, ◌-◌, ◌*◌, ◌<◌, ◌≤◌}
@@ -15,18 +14,19 @@ use Rattle.parameters.specs.declared.Params.{Params}
 use Rattle.polynomial.specs.Evaluation.{evaluations}
 use Rattle.encoding.specs.Bytes.{parts}
 use Rattle.scheme.specs.Scheme.{Drawer, Signature, Signed, or_else, attempt, signing}
-use Rattle.signing.specs.Signer.{offered_count, mask_at, signed_by, Offered, Attempted}
+use Rattle.signing.specs.Found.{Parts, parts_of, found_of}
+use Rattle.signing.specs.Signer.{offered_count, signed_by}
+use Rattle.signing.proofs.OfferedMasks.{mask_between}
 
 -- one mask, where i were passed over before it and those after it give `rest`: it signs, or they do
-module _ (i : ℕ) (w : List ℤ) (rest : Option Signed) {s : ℕ} {before after : List ℕ} where
-  passing : (o : Option Signature) {passed : Bool} (count : ℕ) → Attempted s o before passed after → passed ≡ true
-      → Offered s count (or_else i w o rest) before i after
-  passing none count t e = let z : ◌≡◌ {A = ℕ} 0 1 = cc in absurd (omega arith)
-  passing (some r) count t e = record { answer = refl; bytes = t.bytes }
+module _ (i : ℕ) (w : List ℤ) (rest : Option Signed) where
+  passing : (o : Option Signature) {r : Parts} → some r ≡ parts_of o → some (i, r) ≡ found_of (or_else i w o rest)
+  passing none e = cc
+  passing (some s) e = cc
 
-  failing : (o : Option Signature) {passed : Bool} → Attempted s o before passed after → passed ≡ false → (or_else i w o rest ≡ rest) × (after ≡ before)
-  failing none t e = (refl, t.bytes)
-  failing (some r) t e = let z : ◌≡◌ {A = ℕ} 0 1 = cc in absurd (omega arith)
+  failing : (o : Option Signature) → none ≡ parts_of o → or_else i w o rest ≡ rest
+  failing none e = refl
+  failing (some s) e = cc
 
 -- the parts from number i on, and the first of them apart
 module _ {A : Type 0} (size count : ℕ) (l : List A) where
@@ -53,35 +53,37 @@ module _ (draw : Drawer) (p : Params) (f : List ℤ) (exponents : List ℕ) (mas
   unfolding signed_by
   signed_all = ap (signing draw p exponents message 0 f) (sym (parts_all p.n (offered_count p masks) masks))
 
-  -- what mask number i gives
-  abbrev pub offer : ℕ → Option Signature
-  offer i = attempt draw p exponents message f (mask_at p masks i)
-
-  -- all masks were passed over before number i, and the buffer is as it was
-  pub none_offered : {s : ℕ} {before out : List ℕ} (i : ℕ) → offered_count p masks ≤ i → signed_by draw p f exponents masks message ≡ signed_from i → out ≡ before
-      → Offered s (offered_count p masks) (signed_by draw p f exponents masks message) before (offered_count p masks) out
-  none_offered i h e g =
+  -- all masks were passed over before number i
+  pub none_offered : (i : ℕ) → offered_count p masks ≤ i → signed_by draw p f exponents masks message ≡ signed_from i
+      → none ≡ found_of (signed_by draw p f exponents masks message)
+  none_offered i h e =
       let none_left : offered_count p masks - i ≡ 0 = omega arith in
       let none-signs = e ∙ ap (λ (n : ℕ). signing draw p exponents message i f (parts p.n n (drop (i * p.n) masks))) none_left in
-      rw none-signs (record { answer = refl; bytes = g })
+      rw none-signs
 
-  -- mask number i is tried
+  -- mask number i is tried, as the code lends it
   module _ (i : ℕ) (h : i < offered_count p masks) (e : signed_by draw p f exponents masks message ≡ signed_from i) where
-    -- the commitment of the mask, and what the masks after it give
+    abbrev lent : List ℤ
+    lent = take (i * p.n + p.n - i * p.n) (drop (i * p.n) masks)
+
+    -- what the mask gives, its commitment, and what the masks after it give
+    abbrev offer : Option Signature
+    offer = attempt draw p exponents message f lent
+
     abbrev w : List ℤ
-    w = evaluations p (mask_at p masks i) exponents
+    w = evaluations p lent exponents
 
     abbrev later : Option Signed
     later = signed_from (i + 1)
 
-    offered : signed_by draw p f exponents masks message ≡ or_else i w (offer i) later
+    offered : signed_by draw p f exponents masks message ≡ or_else i w offer later
     offered =
         e ∙ ap (signing draw p exponents message i f) (parts_next p.n (offered_count p masks) masks i h)
-        ∙ ap (λ (n : ℕ). or_else i w (offer i) (signing draw p exponents message n f (parts_from p.n (offered_count p masks) masks (i + 1)))) (sym (add-one i))
+        ∙ ap (λ (y : List ℤ). signing draw p exponents message i f (y ∷ parts_from p.n (offered_count p masks) masks (i + 1))) (sym (mask_between p masks i))
+        ∙ ap (λ (n : ℕ). or_else i w offer (signing draw p exponents message n f (parts_from p.n (offered_count p masks) masks (i + 1)))) (sym (add-one i))
 
-    module _ {s : ℕ} {before out after : List ℕ} {passed : Bool} (g : out ≡ before) (t : Attempted s (offer i) out passed after) where
-      pub passed_here : passed ≡ true → Offered s (offered_count p masks) (signed_by draw p f exponents masks message) before i after
-      passed_here u = rw (offered, ← g) (passing i w later (offer i) (offered_count p masks) t u)
+    pub passed_here : {r : Parts} → some r ≡ parts_of offer → some (i, r) ≡ found_of (signed_by draw p f exponents masks message)
+    passed_here g = passing i w later offer g ∙ ap found_of (sym offered)
 
-      pub failed_here : passed ≡ false → (signed_by draw p f exponents masks message ≡ signed_from (i + 1)) × (after ≡ before)
-      failed_here u = let (rest, same) = failing i w later (offer i) t u in (offered ∙ rest, same ∙ g)
+    pub failed_here : none ≡ parts_of offer → signed_by draw p f exponents masks message ≡ signed_from (i + 1)
+    failed_here g = offered ∙ failing i w later offer g

@@ -1,3 +1,4 @@
 pub mod Signer
+pub mod Found
 pub mod Sign
 pub mod Asks

@@ -11,8 +11,8 @@ use Rattle.challenge.specs.Pool.{is_rule}
 use Rattle.encoding.specs.Encoding.{secret_key_size, signature_size, are_exponents, is_key, key_of}
 use Rattle.scheme.specs.Scheme.{Drawers, Signed}
 use Rattle.signing.specs.Signer.{signed_by, signed_bytes}
-use Rattle.refusal.specs.declared.Signing.{Signing}
-use Rattle.refusal.specs.declared.Signing.TheVariants as answer
+use Rattle.refusal.specs.Signing.{Signing}
+use Rattle.refusal.specs.Signing as answer
 use Rattle.refusal.specs.Answer.{set_byte, set_in, is_long, in_set_of, unless_refused, Stated, stated}
 use Rattle.refusal.specs.Numbers.{wrong_length, wrong_rule, wrong_exponents, wrong_key, wrong_mask, none_passes}
 

@@ -1,6 +1,6 @@
 -- Signing with masks that lie one after the other, and the bytes of the signature.
 -- Assumes nothing.
-use Rattle.std.specs.Prelude.{◌≡◌, Bool, true, false, List, ℕ, ◌*◌, ◌/◌, ℤ, length, take, drop}
+use Rattle.std.specs.Prelude.{List, ℕ, ◌*◌, ◌/◌, ℤ, length, take, drop}
 use Rattle.std.proofs.Math.Option.{Option, none, some}
 use Rattle.parameters.specs.declared.Params.{Params}
 use Rattle.encoding.specs.Bytes.{parts}
@@ -28,30 +28,7 @@ signature_of s r = signature_bytes s (entries_of r.c) r.z
 unfoldable pub signed_by : Drawer → Params → List ℤ → List ℕ → List ℤ → List ℕ → Option Signed
 signed_by draw p f exponents masks message = signing draw p exponents message 0 f (masks_of p masks)
 
--- the number of masks passed over; all of them where none passes
-abbrev pub passed_over_in : ℕ → Option Signed → ℕ
-passed_over_in count none = count
-passed_over_in count (some r) = r.passed_over
-
 -- a buffer after a signing: the signature's bytes, or as it was where no mask passes
 abbrev pub signed_bytes : ℕ → Option Signed → List ℕ → List ℕ
 signed_bytes s none out = out
 signed_bytes s (some r) out = signature_of s r.signature
-
--- the masks offered in turn: how many were passed over, and the buffer before and after
-pub record Offered (s count : ℕ) (signed : Option Signed) (before : List ℕ) (passed : ℕ) (after : List ℕ) : Type 0 where
-  pub answer : passed ≡ passed_over_in count signed
-  pub bytes : after ≡ signed_bytes s signed before
-
--- the same of one mask: whether it passes, and the buffer
-abbrev pub passes : Option Signature → Bool
-passes none = false
-passes (some r) = true
-
-abbrev pub attempt_bytes : ℕ → Option Signature → List ℕ → List ℕ
-attempt_bytes s none out = out
-attempt_bytes s (some r) out = signature_of s r
-
-pub record Attempted (s : ℕ) (signature : Option Signature) (before : List ℕ) (passed : Bool) (after : List ℕ) : Type 0 where
-  pub answer : passed ≡ passes signature
-  pub bytes : after ≡ attempt_bytes s signature before

@@ -1,184 +1,136 @@
-// Signing: the masks are offered in turn and the first that passes signs; then the entry with its refusals.
+// Signing: the masks are offered in turn and the first that passes signs; then the entry with its refusals. Lists stand in front of arrays of one size for all
+// sets, since the libraries have no heap.
 #![tactic(auto)]
 
-ghost use Rattle.std.specs.Prelude.{◌≡◌, true, ◌∷◌, length};
+ghost use Rattle.std.specs.Prelude.{◌≡◌, true, ◌∷◌, ◌<◌, ◌≤◌, T, IfSome, length, take};
+ghost use Rattle.algebra.specs.Integer.{within};
 ghost use Rattle.challenge.specs.Draw.{draw_challenge};
-ghost use Rattle.parameters.specs.Ring.{Usable};
-ghost use Rattle.parameters.specs.Sets.{is_set, set_of};
-ghost use Rattle.parameters.specs.Sound.{Fitting, Sound};
-ghost use Rattle.signing.specs.Sign.{are_whole, sign_lengths, sign_refusal_in, sign_answer_in, sign_written_in, sign_answer, sign_stated, sign_written};
+ghost use Rattle.challenge.specs.Rules.{rule_number};
+ghost use Rattle.parameters.specs.Sound.{Fitting};
+ghost use Rattle.signing.specs.Sign.{are_whole, sign_lengths, sign_answer_in, sign_written_in, sign_answer, sign_stated, sign_written};
 ghost use Rattle.encoding.specs.Challenge.{entries_of};
-ghost use Rattle.encoding.specs.Encoding.{signature_size, signature_bytes};
 ghost use Rattle.polynomial.specs.Sparse.{Sparse};
-ghost use Rattle.split_tables.specs.Split.{SplitTable};
 ghost use Rattle.refusal.specs.Answer.{signing_states};
+ghost use Rattle.refusal.specs.Meaning.{signing_in};
 ghost use Rattle.scheme.specs.Scheme.{attempt, signature_in_range};
-ghost use Rattle.signing.specs.Asks.{TernaryKey, Points, Writable};
-ghost use Rattle.signing.specs.Signer.{offered_count, signed_by, Offered, Attempted};
+ghost use Rattle.signing.specs.Asks.{TernaryKey, Points};
+ghost use Rattle.signing.specs.Found.{parts_in, parts_of, found_in, found_of};
+ghost use Rattle.signing.specs.Signer.{offered_count, signed_by};
 
-use challenge::{challenge_of, is_rule};
+use challenge::{Rule, challenge_of};
 use encoding::numbers::{are_exponents, narrow};
 use encoding::secret_key::{are_key_bytes, decode_secret_key, secret_key_size};
-use encoding::signature::{put_signature, signature_size, write_entries};
+use encoding::signature::{Signature, put_signature, signature_size, write_entries};
 use parameters::{MAX_B, MAX_MASKS, MAX_MESSAGE, MAX_N, MAX_T, Params};
 use polynomial::product::z_of;
-use polynomial::range::{in_range, in_range16};
-use refusal::{
-    NONE_PASSES, Signing, WRONG_EXPONENTS, WRONG_KEY, WRONG_LENGTH, WRONG_MASK, WRONG_RULE,
-    set_refusal, unless,
-};
+use polynomial::range::in_range;
+use refusal::{Refusal, ensure, ring_in};
 use split::points::evaluate_residues;
-use split_tables::{SPLIT_ROOM, look_up};
+use split_tables::Ring;
 
-// Writes a signature's bytes: the set, the challenge's b entries, the N coefficients of z.
-fn encode_signature(p: Params, set: u8, c: &[i8], z: &[i32], out: &mut [u8])
-    requires { Fitting p × Writable p c.now z.now out.old }
-    ensures { out.new ≡ signature_bytes set (entries_of c.now) z.now }
-{
-    let n = p.n;
-    let b = p.b;
-    let mut entries = [0u16; MAX_B];
-    write_entries(c, &mut entries[..b]);
-    let mut narrowed = [0i16; MAX_N];
-    narrow(z, &mut narrowed[..n]);
-    put_signature(set, &entries[..b], &narrowed[..n], out);
+// An accepted signing: how many masks were passed over, and the signature.
+#[derive(Drop)]
+struct Signed {
+    passed_over: usize,
+    signature: Signature,
 }
 
-// Writes the signature with the challenge c and the mask y where its point is in range, and says whether it is.
-fn sign_with_challenge(p: Params, set: u8, f: &[i16], c: &[i8], y: &[i16], out: &mut [u8]) -> bool
-    requires sound { Sound p × Fitting p × TernaryKey p f.now × Sparse p c.now }
-    requires y_len { (length y.now ≡ p.n) × (length out.old ≡ signature_size p) }
-    ensures { Attempted set (signature_in_range p f.now y.now c.now) out.old result out.new }
-{
-    let n = p.n;
-    let mut z = [0i32; MAX_N];
-    z_of(f, c, y, &mut z[..n]);
-    let bound = p.k - p.b as u32;
-    if in_range(&z[..n], bound) {
-        encode_signature(p, set, c, &z[..n], out);
-        return true;
-    }
-    false
+// What signs: a key at the points of a ring, with a message under a rule of hashing.
+#[derive(Clone, Copy)]
+struct Signer<'a> {
+    ring: &'a Ring<'a>,
+    f: &'a [i16],
+    exponents: &'a [u16],
+    message: &'a [u8],
+    rule: Rule,
+    ghost ternary: { TernaryKey ring.now.params f.now },
+    ghost points: { Points ring.now.params exponents.now },
 }
 
-// Writes the signature that the mask y gives where it passes, and says whether it does.
-fn sign_with_mask(
-    p: Params,
-    powers: &[u32; MAX_N],
-    split: &[u32],
-    set: u8,
-    f: &[i16],
-    exponents: &[u16],
-    y: &[i16],
-    message: &[u8],
-    out: &mut [u8],
-    rule: u8,
-) -> bool
-    requires usable { Usable p powers.now × TernaryKey p f.now × Points p exponents.now × SplitTable p split.now }
-    requires y_len { (length y.now ≡ p.n) × (length out.old ≡ signature_size p) }
-    ensures { Attempted set (attempt (draw_challenge rule) p exponents.now message.now f.now y.now)
-        out.old result out.new }
-{
-    let n = p.n;
-    let t = p.t;
-    let mut commitment = [0u32; MAX_T];
-    evaluate_residues(p, powers, split, y, exponents, &mut commitment[..t]);
-    let drawn = challenge_of(p, &commitment[..t], message, rule);
-    if !drawn.complete {
-        return false;
-    }
-    let c = drawn.challenge;
-    sign_with_challenge(p, set, f, &c[..n], y, out)
-}
-
-// Offers the masks in turn, N numbers each, and writes the signature of the first that passes. Answers how many were passed over:
-// all of them where none passes, and then the buffer is as it was.
-fn sign_first(
-    p: Params,
-    powers: &[u32; MAX_N],
-    split: &[u32],
-    set: u8,
-    f: &[i16],
-    exponents: &[u16],
-    masks: &[i16],
-    message: &[u8],
-    out: &mut [u8],
-    rule: u8,
-) -> usize
-    requires usable { Usable p powers.now × TernaryKey p f.now × Points p exponents.now × SplitTable p split.now }
-    requires out_len { length out.old ≡ signature_size p }
-    ensures { Offered set (offered_count p masks.now)
-        (signed_by (draw_challenge rule) p f.now exponents.now masks.now message.now)
-        out.old result out.new }
-{
-    let n = p.n;
-    let count = masks.len() / n;
-    let mut i = 0;
-    while i < count {
-        let at = i * n;
-        let to = at + n;
-        if sign_with_mask(
-            p,
-            powers,
-            split,
-            set,
-            f,
-            exponents,
-            &masks[at..to],
-            message,
-            out,
-            rule,
-        ) {
-            return i;
+impl Signer<'_> {
+    // The signature with a challenge and a point z: the challenge as b entries, the N coefficients of z in 16 bits.
+    fn signature_of(&self, c: &[i8], z: &[i32]) -> Signature
+        requires challenge { Sparse self.now.ring.now.params c.now }
+        requires z_len { (length z.now ≡ self.now.ring.now.params.n) × T (within 32767 z.now) }
+        ensures sizes { (result.b ≡ self.now.ring.now.params.b) × (result.n ≡ self.now.ring.now.params.n) }
+        ensures entries { take self.now.ring.now.params.b result.entries ≡ entries_of c.now }
+        ensures z { take self.now.ring.now.params.n result.z ≡ z.now }
+    {
+        let n = self.ring.params.n;
+        let b = self.ring.params.b;
+        let mut entries = [0u16; MAX_B];
+        write_entries(c, &mut entries[..b]);
+        let mut narrowed = [0i16; MAX_N];
+        narrow(z, &mut narrowed[..n]);
+        Signature {
+            b,
+            n,
+            entries,
+            z: narrowed,
         }
-        i += 1;
     }
-    count
-}
 
-// Whether so many numbers are masks of N numbers each, at most eight.
-fn are_masks(p: Params, count: usize) -> bool
-    requires { Fitting p }
-    ensures { result ≡ are_whole p count }
-{
-    (count % p.n == 0) & (count <= MAX_MASKS * p.n)
-}
-
-// Whether the lengths are those of the set.
-fn has_sign_lengths(p: Params, key: usize, exponents: usize, masks: usize, room: usize) -> bool
-    requires { Fitting p }
-    ensures { result ≡ sign_lengths p key exponents masks room }
-{
-    (key == secret_key_size(p))
-        & ((exponents == p.t) & (are_masks(p, masks) & (room == signature_size(p))))
-}
-
-// The refusal for lengths, rule, exponents, key and masks, or 0; the key without its set byte, which decides nothing here.
-fn sign_refusal(
-    p: Params,
-    key: &[u8],
-    exponents: &[u16],
-    masks: &[i16],
-    room: usize,
-    rule: u8,
-) -> u32
-    requires { Fitting p }
-    ensures { result ≡ sign_refusal_in rule p (0 ∷ key.now) exponents.now masks.now room }
-{
-    if !has_sign_lengths(p, 1 + key.len(), exponents.len(), masks.len(), room) {
-        return WRONG_LENGTH;
+    // The signature with the challenge c and the mask y, where its point is in range.
+    fn signature_in_range(&self, c: &[i8], y: &[i16]) -> Option<Signature>
+        requires challenge { Sparse self.now.ring.now.params c.now }
+        requires y_len { length y.now ≡ self.now.ring.now.params.n }
+        ensures sizes { IfSome result (λ s. (s.b ≡ self.now.ring.now.params.b) × (s.n ≡ self.now.ring.now.params.n)) }
+        ensures parts { parts_in self.now.ring.now.params result ≡ parts_of (signature_in_range self.now.ring.now.params self.now.f.now y.now c.now) }
+    {
+        let p = self.ring.params;
+        let n = p.n;
+        let mut z = [0i32; MAX_N];
+        z_of(self.f, c, y, &mut z[..n]);
+        if in_range(&z[..n], p.k - p.b as u32) {
+            Some(self.signature_of(c, &z[..n]))
+        } else {
+            None
+        }
     }
-    let of_masks = unless(in_range16(masks, p.k), WRONG_MASK, 0);
-    let of_key = unless(are_key_bytes(key), WRONG_KEY, of_masks);
-    let of_exponents = unless(are_exponents(exponents, p.n), WRONG_EXPONENTS, of_key);
-    unless(is_rule(rule), WRONG_RULE, of_exponents)
+
+    // The signature that the mask y gives, where it passes.
+    #[tactic(auto, unfolding(scheme::specs::Scheme::attempt))]
+    fn attempt(&self, y: &[i16]) -> Option<Signature>
+        requires y_len { length y.now ≡ self.now.ring.now.params.n }
+        ensures sizes { IfSome result (λ s. (s.b ≡ self.now.ring.now.params.b) × (s.n ≡ self.now.ring.now.params.n)) }
+        ensures parts { parts_in self.now.ring.now.params result ≡ parts_of
+            (attempt (draw_challenge (rule_number self.now.rule)) self.now.ring.now.params self.now.exponents.now self.now.message.now self.now.f.now y.now) }
+    {
+        let p = self.ring.params;
+        let n = p.n;
+        let t = p.t;
+        let mut commitment = [0u32; MAX_T];
+        evaluate_residues(self.ring, y, self.exponents, &mut commitment[..t]);
+        let c = challenge_of(p, &commitment[..t], self.message, self.rule.number())?;
+        self.signature_in_range(&c[..n], y)
+    }
+
+    // Offers the masks in turn, N numbers each: the signing by the first that passes.
+    fn first_passing(&self, masks: &[i16]) -> Option<Signed>
+        ensures sizes { IfSome result (λ s. (s.signature.b ≡ self.now.ring.now.params.b) × (s.signature.n ≡ self.now.ring.now.params.n)) }
+        ensures offered { IfSome result (λ s. s.passed_over < offered_count self.now.ring.now.params masks.now) }
+        ensures parts { found_in self.now.ring.now.params result ≡ found_of
+            (signed_by (draw_challenge (rule_number self.now.rule)) self.now.ring.now.params self.now.f.now self.now.exponents.now masks.now self.now.message.now) }
+    {
+        let n = self.ring.params.n;
+        for i in 0..masks.len() / n {
+            let at = i * n;
+            if let Some(signature) = self.attempt(&masks[at..at + n]) {
+                return Some(Signed {
+                    passed_over: i,
+                    signature,
+                });
+            }
+        }
+        None
+    }
 }
 
-// Signs in a set with a key without its set byte.
-fn sign_in(
-    p: Params,
-    powers: &[u32; MAX_N],
-    split: &[u32],
+// Signs in a ring with a key without its set byte, which decides nothing here: it is what the signature begins with, and a ring does not know it. Refuses with
+// 1, 18, 4, 5, 6, 9, and then leaves the buffer as it was.
+#[tactic(auto, unfolding(crate::specs::Sign::sign_refusal_in, crate::specs::Sign::sign_answer_in, crate::specs::Sign::sign_written_in, crate::specs::Signer::signature_of, encoding::specs::Encoding::is_key, encoding::specs::Encoding::key_of))]
+pub fn sign_in(
+    ring: &Ring,
     set: u8,
     key: &[u8],
     exponents: &[u16],
@@ -186,74 +138,42 @@ fn sign_in(
     message: &[u8],
     out: &mut [u8],
     rule: u8,
-) -> Signing
-    requires { Usable p powers.now × SplitTable p split.now }
-    ensures answer { result ≡ sign_answer_in draw_challenge rule p (set ∷ key.now) exponents.now
+) -> Result<u8, Refusal>
+    ensures answer { signing_in result ≡ sign_answer_in draw_challenge rule ring.now.params (set ∷ key.now) exponents.now
         masks.now message.now out.old }
-    ensures written { out.new ≡ sign_written_in draw_challenge rule p (set ∷ key.now) exponents.now
+    ensures written { out.new ≡ sign_written_in draw_challenge rule ring.now.params (set ∷ key.now) exponents.now
         masks.now message.now out.old }
 {
-    let refusal = sign_refusal(p, key, exponents, masks, out.len(), rule);
-    if refusal != 0 {
-        return Signing::Refused(refusal);
-    }
+    let p = ring.params;
     let n = p.n;
+    ensure(
+        1 + key.len() == secret_key_size(p)
+            && exponents.len() == p.t
+            && masks.len() % n == 0
+            && masks.len() <= MAX_MASKS * n
+            && out.len() == signature_size(p),
+        Refusal::WrongLength,
+    )?;
+    let rule = Rule::of(rule).ok_or(Refusal::WrongRule)?;
+    ensure(are_exponents(exponents, n), Refusal::WrongExponents)?;
+    ensure(are_key_bytes(key), Refusal::WrongKey)?;
+    ensure(in_range(masks, p.k), Refusal::WrongMask)?;
     let f = decode_secret_key(p, key);
-    let passed = sign_first(
-        p,
-        powers,
-        split,
-        set,
-        &f[..n],
+    let signer = Signer {
+        ring,
+        f: &f[..n],
         exponents,
-        masks,
         message,
-        out,
         rule,
-    );
-    if passed < masks.len() / n {
-        let number = passed as u8;
-        Signing::Signed(number)
-    } else {
-        Signing::Refused(NONE_PASSES)
-    }
+    };
+    let signed = signer.first_passing(masks).ok_or(Refusal::NonePasses)?;
+    put_signature(set, signed.signature.entries(), signed.signature.z(), out);
+    Ok(signed.passed_over as u8)
 }
 
-// Signs in a set that is looked up, with a key without its set byte.
-pub fn sign_in_set(
-    set: u8,
-    key: &[u8],
-    exponents: &[u16],
-    masks: &[i16],
-    message: &[u8],
-    out: &mut [u8],
-    rule: u8,
-) -> Signing
-    requires { is_set set ≡ true }
-    ensures answer { result ≡ sign_answer_in draw_challenge rule (set_of set) (set ∷ key.now) exponents.now
-        masks.now message.now out.old }
-    ensures written { out.new ≡ sign_written_in draw_challenge rule (set_of set) (set ∷ key.now) exponents.now
-        masks.now message.now out.old }
-{
-    let mut powers = [0u32; MAX_N];
-    let mut table = [0u32; SPLIT_ROOM];
-    let p = look_up(set, &mut powers, &mut table);
-    let size = 3 * (p.n - 1);
-    sign_in(
-        p,
-        &powers,
-        &table[..size],
-        set,
-        key,
-        exponents,
-        masks,
-        message,
-        out,
-        rule,
-    )
-}
-
-// Signs a message under a rule of hashing with the first of the masks that passes, N numbers each, one after the other. Refuses with 1, 2, 1, 18, 4, 5, 6, 9.
+// Signs a message under a rule of hashing with the first of the masks that passes, N numbers each, one after the other. Refuses with 1, 2, 1, 18, 4, 5, 6, 9,
+// and then leaves the buffer as it was.
+#[tactic(auto, unfolding(crate::specs::Sign::sign_refusal, crate::specs::Sign::sign_answer_in, crate::specs::Sign::sign_written_in, crate::specs::Sign::sign_answer, crate::specs::Sign::sign_stated, crate::specs::Sign::sign_written))]
 pub fn sign(
     secret_key: &[u8],
     exponents: &[u16],
@@ -261,21 +181,24 @@ pub fn sign(
     message: &[u8],
     out: &mut [u8],
     rule: u8,
-) -> Signing
-    ensures answer { result ≡ sign_answer rule secret_key.now exponents.now masks.now
+) -> Result<u8, Refusal>
+    ensures answer { signing_in result ≡ sign_answer rule secret_key.now exponents.now masks.now
         message.now out.old }
-    ensures number { signing_states result ≡ sign_stated rule secret_key.now exponents.now masks.now
+    ensures number { signing_states (signing_in result) ≡ sign_stated rule secret_key.now exponents.now masks.now
         message.now out.old }
     ensures written { out.new ≡ sign_written rule secret_key.now exponents.now masks.now
         message.now out.old }
 {
-    if MAX_MESSAGE < message.len() {
-        return Signing::Refused(WRONG_LENGTH);
-    }
-    let refusal = set_refusal(secret_key);
-    if refusal != 0 {
-        return Signing::Refused(refusal);
-    }
-    let set = secret_key[0];
-    sign_in_set(set, &secret_key[1..], exponents, masks, message, out, rule)
+    ensure(message.len() <= MAX_MESSAGE, Refusal::WrongLength)?;
+    let ring = ring_in(secret_key)?;
+    sign_in(
+        &ring,
+        secret_key[0],
+        &secret_key[1..],
+        exponents,
+        masks,
+        message,
+        out,
+        rule,
+    )
 }

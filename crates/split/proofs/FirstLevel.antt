@@ -16,7 +16,6 @@ use Rattle.split.specs.Levels.{UnderIn, Tripled, Tree, Cut, CutFurther, Joined, 
 use Rattle.split.proofs.LevelLaws.{under_at, under_all}
 use Rattle.split.proofs.TreeBounds.{half_some}
 use Rattle.split.proofs.PairValues.{third_high_below}
-use Rattle.split.proofs.LevelLoops.{under_weaker}
 use Rattle.split.proofs.TreeLaws.{power_none}
 use Rattle.split.proofs.Joining.{power_zero}
 use Rattle.split.proofs.Thirds.{thirds_cut, thirds_joined}
@@ -118,18 +117,10 @@ module _ (q l : ℕ) {start : ℕ} (twists x : List ℕ) (one : start ≡ 1) whe
   whole : length twists ≡ length twists / start
   whole = sym (ap (λ (n : ℕ). length twists / n) one ∙ div-one (length twists))
 
-  pub none_threefold : Threefold q x x
-  none_threefold = record { each = λ n several small. under_weaker (mul-le-mul_right q (omega arith)) small }
-
   pub none_further : CutFurther q l (root_of q twists) 1 (length twists) x start (length twists / start) x
   none_further =
       subst (λ (n : ℕ). CutFurther q l (root_of q twists) 1 (length twists) x n (length twists / start) x) (sym one)
       (subst (λ (m : ℕ). CutFurther q l (root_of q twists) 1 (length twists) x 1 m x) whole (record { each = λ u c. c }))
-
-  pub none_back : JoinedFurther q l (root_of q twists) start (length twists / start) x 1 (length twists) x
-  none_back =
-      subst (λ (n : ℕ). JoinedFurther q l (root_of q twists) n (length twists / start) x 1 (length twists) x) (sym one)
-      (subst (λ (m : ℕ). JoinedFurther q l (root_of q twists) 1 m x 1 (length twists) x) whole (record { each = λ u c. c }))
 
 -- ---- what stands before the first level is cut, and what is joined before any: what they are
 module _ (q k l : ℕ) (root : ℕ → ℕ) (x : List ℕ) where

@@ -73,8 +73,8 @@ module _ {q : ℕ} (modulus : Modulus q) (s : ℕ) (small : s < 2 ^ 51) where
   pub folded-cong : Cong q (pos (folded q s)) (pos s)
   folded-cong = cong_sym (record { times = pos guess; is = ap pos (omega (arith, guess_fits, mul_comm guess q)) })
 
-  pub folded-mod : folded q s % q ≡ s % q
-  folded-mod = residue-eq (omega (arith, modulus.from)) folded-cong
+  pub folded_mod : folded q s % q ≡ s % q
+  folded_mod = residue-eq (omega (arith, modulus.from)) folded-cong
 
 -- a number below 3 q, taken down twice
 pub lowered_twice : (q x : ℕ) → 0 < q → x < 3 * q → lowered q (lowered q x) ≡ x % q

@@ -5,7 +5,7 @@ use mathlib.Core.List.{List}
 use mathlib.Core.Logic.{⊎_elim}
 use Prim.Native.Nat.{ℕ, suc, ◌+◌, ◌-◌, ◌*◌, ◌/◌, ◌^◌, ◌%◌, ◌<◌, ◌≤◌}
 use native.Mathlib.Nat.{add-mul, mul-add, mul_assoc, mul_comm, mul-one, pow-zero, pow-suc}
-use native.Mathlib.Nat.{mod-lt, div-add-mod, mul-div_cancel, mul-le-mul_right, pow-le-pow_right, one-le-pow, mul-le-mul, mul-le-mul_left}
+use native.Mathlib.Nat.{mod-lt, div-add-mod, mul-div_cancel, mul-le-mul_right, pow-le-pow_right, one-le-pow, mul-le-mul_left}
 use native.Mathlib.Omega.{arith}
 use lib.ListN.{length, get_or}
 use Rattle.algebra.proofs.Test.{lt_or_le}
@@ -31,14 +31,6 @@ leaves_few at = omega (arith, at.leaves_are, pow-le-pow_right {n = 2} (omega ari
 
 pub start_some : {q start : ℕ} {twists : List ℕ} → Tree q start twists → 0 < start
 start_some tree = ⊎_elim (λ e. omega (arith, e)) (λ e. omega (arith, e)) tree.starts
-
-pub nodes_some : {start k nodes leaves : ℕ} → Height start k nodes leaves → 0 < start → 0 < nodes
-nodes_some {start} at some = omega (
-  arith,
-  at.nodes_are,
-  mul-le-mul {n₁ = 1} {m₁ = 1} {n₂ = start} {m₂ = 2 ^ at.up} some (one-le-pow at.up 2
-      (omega arith)),
-)
 
 pub nodes_least : {start k nodes leaves : ℕ} → Height start k nodes leaves → start ≤ nodes
 nodes_least {start} at = omega (arith, at.nodes_are, mul-le-mul_left start (one-le-pow at.up 2 (omega arith)), mul-one start)

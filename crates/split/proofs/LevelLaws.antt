@@ -6,14 +6,11 @@ use Prim.Native.Nat.{ℕ, ◌+◌, ◌*◌, ◌<◌, ◌≤◌}
 use native.Mathlib.Nat.{zero-add, add-mul, mul-le-mul_right}
 use native.Mathlib.Omega.{arith}
 use borrow.Author.Tests.{eqb-true, eqb-false}
-use lib.Dec.{T, eqb}
+use lib.Dec.{eqb}
 use lib.ListN.{length, get_or, set, length-set}
 use lib.Seq.{get_or-set_same, get_or-set_other}
-use Rattle.algebra.specs.All.{are_below}
-use Rattle.algebra.proofs.All.{below_at}
 use Rattle.algebra.proofs.Test.{by_test}
 use Rattle.parameters.specs.Limits.{max_n}
-use Rattle.split.specs.Fold.{Modulus, inverse}
 use Rattle.split.specs.Levels.{UnderIn, Paired, Level, Tripled, third_low, third_high}
 
 -- the numbers of a list from its first on are below b, by their places
@@ -28,18 +25,6 @@ two_other : (l : List ℕ) (i j a b k : ℕ) → (k ≡ i → ⊥) → (k ≡ j 
 two_other l i j a b k hi hj = get_or-set_other (set l i a) j k b 0 hj ∙ get_or-set_other l i k a 0 hi
 
 module _ {low high : ℕ → ℕ → ℕ} {from h : ℕ} {old : List ℕ} where
-  pub paired_none : Paired low high from h old old 0
-  paired_none =
-      record {
-        size = refl;
-        first = λ k l. absurd (omega arith);
-        second = λ k l. absurd (omega arith);
-        rest_first = λ k l m. refl;
-        rest_second = λ k l m. refl;
-        before = λ k l. refl;
-        behind = λ k l. refl;
-      }
-
   module _ {new : List ℕ} {n a b : ℕ} (s : Paired low high from h old new n) (inside : n < h) (room : from + h + h ≤ length old)
       (is-low : a ≡ low (get_or new (from + n) 0) (get_or new (from + h + n) 0)) (is-high : b ≡ high (get_or new (from + n) 0) (get_or new (from + h + n) 0)) where
     pub paired_more : Paired low high from h old (set (set new (from + n) a) (from + h + n) b) (n + 1)
@@ -72,37 +57,17 @@ module _ {low high : ℕ → ℕ → ℕ} {from h : ℕ} {old : List ℕ} where
           behind = λ k l. two_other new (from + n) (from + h + n) a b k (λ e. omega arith) (λ e. omega arith) ∙ s.behind k l;
         }
 
--- after the last turn
-pub paired_all : {low high : ℕ → ℕ → ℕ} {from h n : ℕ} {old new : List ℕ} → (n ≤ h) × Paired low high from h old new n → h ≤ n
-    → Paired low high from h old new h
-paired_all {low} {high} {from} {h} {n} {old} {new} (most, s) last = subst (Paired low high from h old new) (omega arith) s
-
--- the pair that a turn reads: its places, and its numbers, which are as they were and so below what all numbers were below
-pub record Pair (b from h n : ℕ) (x : List ℕ) : Type 0 where
-  pub more : n < h
-  pub place : from + h + n < length x
-  pub room : length x ≤ max_n
-  pub first : get_or x (from + n) 0 < b
-  pub second : get_or x (from + h + n) 0 < b
-
-pub pair_of : {low high : ℕ → ℕ → ℕ} {from h n b : ℕ} {old new : List ℕ} → Paired low high from h old new n → n < h
-    → (from + h + h ≤ length old) × (length old ≤ max_n) × UnderIn b old from (h + h) → Pair b from h n new
-pair_of {from = from} {h = h} {n = n} {old = old} s more (room, most, under) =
-    let at : from + (h + n) ≡ from + h + n = omega arith in
-    record {
-      more = more;
-      place = omega (arith, s.size);
-      room = omega (arith, s.size);
-      first = omega (arith, s.rest_first n (omega arith) more, under.each n (omega arith));
-      second = omega (arith, s.rest_second n (omega arith) more, under.each (h + n) (omega arith), ap (λ (i : ℕ). get_or old i 0) at);
-    }
+-- the pair that a turn reads, which no turn before has written: its numbers are below what all were below
+pub pair_below : {low high : ℕ → ℕ → ℕ} {from h n b : ℕ} {old new : List ℕ} → Paired low high from h old new n → n < h → UnderIn b old from (h + h)
+    → (get_or new (from + n) 0 < b) × (get_or new (from + h + n) 0 < b)
+pair_below {from = from} {h = h} {n = n} {old = old} s more under =
+    let at : from + (h + n) ≡ from + h + n = omega arith in (
+      omega (arith, s.rest_first n (omega arith) more, under.each n (omega arith)),
+      omega (arith, s.rest_second n (omega arith) more, under.each (h + n) (omega arith), ap (λ (i : ℕ). get_or old i 0) at),
+    )
 
 -- ---- a level: one node more
 module _ {low high : ℕ → ℕ → ℕ → ℕ} {c : ℕ → ℕ} {h : ℕ} {old : List ℕ} where
-  pub level_none : Level low high c h old old 0
-  level_none =
-      record { size = refl; first = λ b k l m. absurd (omega arith); second = λ b k l m. absurd (omega arith); behind = λ k l. refl }
-
   module _ {new next : List ℕ} {n : ℕ} (s : Level low high c h old new n) (t : Paired (low (c n)) (high (c n)) (n * (2 * h)) h new next h) where
     pub level_more : Level low high c h old next (n + 1)
     level_more =
@@ -130,61 +95,23 @@ module _ {low high : ℕ → ℕ → ℕ → ℕ} {c : ℕ → ℕ} {h : ℕ} {o
               t.behind k (omega (arith, add-mul n 1 (2 * h))) ∙ s.behind k (omega (arith, add-mul n 1 (2 * h)));
         }
 
--- after the last turn
-pub level_all : {low high : ℕ → ℕ → ℕ → ℕ} {c : ℕ → ℕ} {h n nodes : ℕ} {old new : List ℕ} → (n ≤ nodes) × Level low high c h old new n → nodes ≤ n
-    → Level low high c h old new nodes
-level_all {low} {high} {c} {h} {n} {nodes} {old} {new} (most, s) last = subst (Level low high c h old new) (omega arith) s
-
 -- the blocks up to a node's end are among all
 pub node_room : (h n nodes : ℕ) → n < nodes → n * (2 * h) + (h + h) ≤ nodes * (2 * h)
 node_room h n nodes l = omega (arith, mul-le-mul_right {m = n + 1} {n = nodes} (2 * h) (omega arith), add-mul n 1 (2 * h))
 
--- what a level of so many nodes asks of its twists and numbers
-abbrev pub LevelAsks : ℕ → ℕ → ℕ → ℕ → List ℕ → List ℕ → Type 0
-LevelAsks q m nodes h twists x = (Modulus q × (m ≡ inverse q) × T (are_below q twists) × (nodes + nodes ≤ length twists))
-    × ((nodes * (2 * h) ≤ length x) × (length x ≤ max_n) × UnderIn (61 * q) x 0 (nodes * (2 * h)))
-
--- the node of a turn: the place of its twist, and what its block and its twist are asked
-pub record Node (q m nodes h b : ℕ) (twists x : List ℕ) : Type 0 where
-  pub more : b < nodes
-  pub place : nodes + b < length twists
-  pub asks : (Modulus q × (m ≡ inverse q) × (get_or twists (nodes + b) 0 < q))
-      × ((b * (2 * h) + h + h ≤ length x) × (length x ≤ max_n) × UnderIn (61 * q) x (b * (2 * h)) (h + h))
-
--- no turn before has written the block
-pub node_of : {low high : ℕ → ℕ → ℕ → ℕ} {c : ℕ → ℕ} {q m nodes h b : ℕ} {twists old new : List ℕ} → Level low high c h old new b → b < nodes
-    → LevelAsks q m nodes h twists old → Node q m nodes h b twists new
-node_of {q = q} {nodes = nodes} {h = h} {b = b} {twists = twists} s more ((modulus, is, below, twisted), (room, most, under)) =
-    let end = node_room h b nodes more in
-    record {
-      more = more;
-      place = omega arith;
-      asks = (
-        (modulus, is, below_at q twists below (nodes + b) (omega arith)),
-        (
-          omega (arith, end, s.size),
-          omega (arith, s.size),
-          record {
-            each = λ k l. omega (arith, s.behind (b * (2 * h) + k) (omega arith), under_at under (b * (2 * h) + k) (omega (arith, end)));
-          },
-        ),
-      );
-    }
+-- the block of a turn's node, which no turn before has written: there is room for it, and its numbers are as small as all were
+pub node_asks : {low high : ℕ → ℕ → ℕ → ℕ} {c : ℕ → ℕ} {a nodes h b : ℕ} {old new : List ℕ} → Level low high c h old new b → b < nodes
+    → (nodes * (2 * h) ≤ length old) × (length old ≤ max_n) × UnderIn a old 0 (nodes * (2 * h))
+    → (b * (2 * h) + h + h ≤ length new) × (length new ≤ max_n) × UnderIn a new (b * (2 * h)) (h + h)
+node_asks {nodes = nodes} {h = h} {b = b} s more (room, most, under) =
+    let end = node_room h b nodes more in (
+      omega (arith, end, s.size),
+      omega (arith, s.size),
+      record { each = λ k l. omega (arith, s.behind (b * (2 * h) + k) (omega arith), under_at under (b * (2 * h) + k) (omega (arith, end))) },
+    )
 
 -- ---- thirds: one triple more
 module _ {q c d h : ℕ} {old : List ℕ} where
-  pub tripled_none : Tripled q c d h old old 0
-  tripled_none =
-      record {
-        size = refl;
-        first = λ k l. absurd (omega arith);
-        second = λ k l. absurd (omega arith);
-        third = λ k l. absurd (omega arith);
-        rest_first = λ k l m. refl;
-        rest_second = λ k l m. refl;
-        rest_third = λ k l m. refl;
-      }
-
   module _ {new : List ℕ} {n : ℕ} (v w z : ℕ) (s : Tripled q c d h old new n) (inside : n < h) (room : h + h + h ≤ length old)
       (is-first : v ≡ third_low (get_or new n 0) (get_or new (h + n) 0) (get_or new (h + h + n) 0))
       (is-second : w ≡ third_high q c d (get_or new n 0) (get_or new (h + n) 0) (get_or new (h + h + n) 0))
@@ -236,27 +163,11 @@ module _ {q c d h : ℕ} {old : List ℕ} where
           rest_third = λ k l m. other (h + h + k) (λ e. omega arith) (λ e. omega arith) (λ e. omega arith) ∙ s.rest_third k (omega arith) m;
         }
 
--- after the last turn
-pub tripled_all : {q c d h n : ℕ} {old new : List ℕ} → (n ≤ h) × Tripled q c d h old new n → h ≤ n → Tripled q c d h old new h
-tripled_all {q} {c} {d} {h} {n} {old} {new} (most, s) last = subst (Tripled q c d h old new) (omega arith) s
-
--- the triple that a turn reads
-pub record Triple (b h n : ℕ) (x : List ℕ) : Type 0 where
-  pub more : n < h
-  pub place : h + h + n < length x
-  pub room : length x ≤ max_n
-  pub first : get_or x n 0 < b
-  pub second : get_or x (h + n) 0 < b
-  pub third : get_or x (h + h + n) 0 < b
-
-pub triple_of : {q c d h n b : ℕ} {old new : List ℕ} → Tripled q c d h old new n → n < h
-    → (h + h + h ≤ length old) × (length old ≤ max_n) × UnderIn b old 0 (h + h + h) → Triple b h n new
-triple_of {h = h} {n = n} s more (room, most, under) =
-    record {
-      more = more;
-      place = omega (arith, s.size);
-      room = omega (arith, s.size);
-      first = omega (arith, s.rest_first n (omega arith) more, under_at under n (omega arith));
-      second = omega (arith, s.rest_second n (omega arith) more, under_at under (h + n) (omega arith));
-      third = omega (arith, s.rest_third n (omega arith) more, under_at under (h + h + n) (omega arith));
-    }
+-- the triple that a turn reads, likewise
+pub triple_below : {q c d h n b : ℕ} {old new : List ℕ} → Tripled q c d h old new n → n < h → UnderIn b old 0 (h + h + h)
+    → (get_or new n 0 < b) × (get_or new (h + n) 0 < b) × (get_or new (h + h + n) 0 < b)
+triple_below {h = h} {n = n} s more under = (
+  omega (arith, s.rest_first n (omega arith) more, under_at under n (omega arith)),
+  omega (arith, s.rest_second n (omega arith) more, under_at under (h + n) (omega arith)),
+  omega (arith, s.rest_third n (omega arith) more, under_at under (h + h + n) (omega arith)),
+)

@@ -3,18 +3,16 @@
 use mathlib.Core.Path.{◌≡◌, refl, sym, ap, ◌∙◌, subst}
 use mathlib.Core.List.{List}
 use Prim.Native.Nat.{ℕ, ◌+◌, ◌*◌, ◌/◌, ◌<◌, ◌≤◌}
-use native.Mathlib.Nat.{add-mul, mul_assoc, mul_comm, mul-one, one-mul, mul-div_cancel, mul-le-mul_left, mul-le-mul_right}
+use native.Mathlib.Nat.{add-mul, mul_assoc, mul_comm, mul-one, mul-div_cancel, mul-le-mul_right}
 use native.Mathlib.Omega.{arith}
 use lib.ListN.{length, get_or}
 use Rattle.parameters.specs.Limits.{max_n}
 use Rattle.split_tables.specs.Split.{PowerOfTwo}
-use Rattle.split.specs.Fold.{inverse}
 use Rattle.split.specs.Levels.{UnderIn, Level, Tree, Cut, CutFurther, Joined, JoinedFurther, root_of, cut_low, cut_high, join_low, join_high}
-use Rattle.split.proofs.LevelLaws.{LevelAsks}
 use Rattle.split.proofs.TreeBounds.{nodes_size, twist_below, half_some}
 use Rattle.split.proofs.PairValues.{cut_grows, join_high_below}
 use Rattle.split.proofs.Heights.{Height, height_first, first_up, down_up, height_last, height_down, height_up}
-use Rattle.split.proofs.Heights.{two_halves, two_pairs, power_of, leaves_few, level_under, nodes_some, nodes_least, start_some}
+use Rattle.split.proofs.Heights.{two_halves, two_pairs, power_of, leaves_few, level_under, nodes_least, start_some}
 use Rattle.split.proofs.Cutting.{level_cuts}
 use Rattle.split.proofs.Joining.{level_joins}
 
@@ -25,23 +23,15 @@ under_weaker le under = record { each = λ k l. omega (arith, under.each k l) }
 pub under_shorter : {a m n : ℕ} {x : List ℕ} → m ≤ n → UnderIn a x 0 n → UnderIn a x 0 m
 under_shorter le under = record { each = λ k l. under.each k (omega arith) }
 
--- ---- a level of so many nodes, of two halves each: what it asks, and that half a block is no longer than all
+-- ---- a level of so many nodes, of two halves each: what it asks
 module _ {q start : ℕ} {twists : List ℕ} (tree : Tree q start twists) (l nodes half : ℕ) (halves : nodes * (2 * half) ≡ length twists)
     (two : PowerOfTwo half) (x : List ℕ) (room : length x ≡ length twists * l) where
   level_size : nodes * (2 * (half * l)) ≡ length x
   level_size = nodes_size nodes half l (length twists) halves ∙ sym room
 
-  level_asks : {m : ℕ} → m ≡ inverse q → length x ≤ max_n → UnderIn (61 * q) x 0 (length x) → 0 < nodes
-      → LevelAsks q m nodes (half * l) twists x × (half * l ≤ length x)
-  level_asks is most under some =
-      let pair : nodes * 2 ≤ nodes * (2 * half) = mul-le-mul_left nodes (omega (arith, half_some two)) in
-      let once = mul-le-mul_right {m = 1} {n = nodes} (2 * (half * l)) some in (
-        (
-          (tree.modulus, is, tree.twisted.below, omega (arith, pair, halves)),
-          (omega (arith, level_size), most, under_shorter (omega (arith, level_size)) under),
-        ),
-        omega (arith, once, level_size, one-mul (2 * (half * l))),
-      )
+  level_asks : length x ≤ max_n → UnderIn (61 * q) x 0 (length x)
+      → (nodes * (2 * (half * l)) ≤ length x) × (length x ≤ max_n) × UnderIn (61 * q) x 0 (nodes * (2 * (half * l)))
+  level_asks most under = (omega (arith, level_size), most, under_shorter (omega (arith, level_size)) under)
 
 -- ---- downwards
 pub record CutTo (q start l : ℕ) (twists old new : List ℕ) (nodes leaves : ℕ) : Type 0 where
@@ -72,9 +62,9 @@ module _ {q start : ℕ} {twists : List ℕ} (tree : Tree q start twists) (l : �
     cut_under : UnderIn (61 * q) new 0 (length new)
     cut_under = under_weaker (omega (arith, cut_bound)) s.under
 
-    pub cut_asks : {m : ℕ} → m ≡ inverse q → length old ≤ max_n → LevelAsks q m nodes (half * l) twists new × (half * l ≤ length new)
-    cut_asks is most =
-        level_asks tree l nodes half halves half_power new (s.size ∙ room) is (omega (arith, s.size)) cut_under (nodes_some s.at (start_some tree))
+    pub cut_asks : length old ≤ max_n
+        → (nodes * (2 * (half * l)) ≤ length new) × (length new ≤ max_n) × UnderIn (61 * q) new 0 (nodes * (2 * (half * l)))
+    cut_asks most = level_asks tree l nodes half halves half_power new (s.size ∙ room) (omega (arith, s.size)) cut_under
 
     pub cut_next : {next : List ℕ} → Level (cut_low q) (cut_high q) (λ (b : ℕ). get_or twists (nodes + b) 0) (half * l) new next nodes
         → CutTo q start l twists old next (nodes + nodes) half
@@ -124,10 +114,9 @@ module _ {q start : ℕ} {twists : List ℕ} (tree : Tree q start twists) (l : �
     join_under : UnderIn (61 * q) new 0 (length new)
     join_under = under_weaker (omega (arith, join_bound)) s.under
 
-    pub join_asks : {m : ℕ} → m ≡ inverse q → length old ≤ max_n → LevelAsks q m pairs (leaves * l) twists new × (leaves * l ≤ length new)
-    join_asks is most =
-        level_asks tree l pairs leaves doubles (power_of s.at) new (s.size ∙ room) is (omega (arith, s.size)) join_under
-        (nodes_some (height_up s.at more) (start_some tree))
+    pub join_asks : length old ≤ max_n
+        → (pairs * (2 * (leaves * l)) ≤ length new) × (length new ≤ max_n) × UnderIn (61 * q) new 0 (pairs * (2 * (leaves * l)))
+    join_asks most = level_asks tree l pairs leaves doubles (power_of s.at) new (s.size ∙ room) (omega (arith, s.size)) join_under
 
     pub join_next : {next : List ℕ} → Level (join_low q) (join_high q) (λ (b : ℕ). get_or twists (pairs + b) 0) (leaves * l) new next pairs
         → JoinTo q start l twists old next pairs (leaves + leaves)

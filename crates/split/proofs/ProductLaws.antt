@@ -1,24 +1,23 @@
 -- The middle stage: sums of products, one term and two terms more; numbers stored one after the other; one row more.
 -- Assumes nothing.
 use mathlib.Core.Path.{◌≡◌, refl, sym, ap, ap₂, ◌∙◌, subst}
-use mathlib.Core.List.{List, [], ◌∷◌, map}
+use mathlib.Core.List.{List, [], ◌∷◌, ◌++◌, map, append_assoc, append-nil}
 use Prim.Native.Nat.{ℕ, zero, suc, ◌+◌, ◌-◌, ◌*◌, ◌^◌, ◌<◌, ◌≤◌}
-use native.Mathlib.Nat.{zero-mul, add-mul, mul-add, mul-le-mul_left, mul-le-mul_right}
+use native.Mathlib.Nat.{add-mul, mul-le-mul_right}
 use native.Mathlib.Numerals.{add-one}
 use native.Mathlib.Omega.{arith}
 use borrow.Author.Tests.{eqb-true, eqb-false, ltb-true, ltb-false}
-use lib.Dec.{T, eqb, ltb, ltb→lt, lt→ltb}
+use lib.Dec.{T, eqb, ltb, lt→ltb}
 use lib.IntN.{ℤ, pos, nat_abs, ◌+ℤ◌, ◌*ℤ◌}
-use lib.ListN.{length, get_or, set, drop, length-set}
-use lib.Seq.{sets, length-sets, get_or-set_same, get_or-set_other, get_or-drop}
+use lib.ListN.{length, get_or, set, take, drop, length-set, length-drop, drop_of_length-le}
+use lib.Seq.{sets, sets-eq, length-sets, length-take-le, get_or-set_same, get_or-set_other, get_or-take, get_or-drop}
 use Rattle.algebra.specs.All.{are_below}
 use Rattle.algebra.specs.Integer.{residue, sum}
-use Rattle.algebra.proofs.All.{all_weaker, below_at}
+use Rattle.algebra.proofs.All.{all_from, below_at}
 use Rattle.algebra.proofs.Congruence.{cong_trans, cong-eq, residue-eq}
 use Rattle.algebra.proofs.Remainder.{product_below}
 use Rattle.algebra.proofs.Sum.{sum_same}
 use Rattle.algebra.proofs.Test.{by_test}
-use Rattle.parameters.specs.Limits.{max_n}
 use Rattle.transform.specs.Asks.{dot_at}
 use Rattle.transform.specs.Convolution.{entry}
 use Rattle.transform.specs.UpFrom.{up_from}
@@ -28,6 +27,7 @@ use Rattle.split_tables.specs.Split.{width, row_at}
 use Rattle.split.specs.Fold.{Modulus, folded}
 use Rattle.split.specs.Levels.{UnderIn, Same}
 use Rattle.split.specs.Products.{Products}
+use Rattle.split.specs.Values.{Staged}
 use Rattle.split.proofs.LevelLaws.{under_at, under_all}
 use Rattle.split.proofs.FoldLaws.{folded_below, folded-cong}
 
@@ -40,77 +40,59 @@ dot_whole u v k (suc n) =
     let p = pos (get_or u n 0 * get_or v (k + n) 0) in
     subst (λ (z : ℤ). z +ℤ p ≡ pos (nat_abs (z +ℤ p))) (sym (dot_whole u v k n)) refl
 
--- n numbers of a from i on times as many of b from j on, summed
-abbrev pub total : List ℕ → ℕ → List ℕ → ℕ → ℕ → ℕ
-total a i b j n = nat_abs (dot_at (drop i a) b j n)
+-- the first n numbers of a times as many of b from j on, summed
+abbrev pub total : List ℕ → List ℕ → ℕ → ℕ → ℕ
+total a b j n = nat_abs (dot_at a b j n)
 
-module _ (a : List ℕ) (i : ℕ) (b : List ℕ) (j : ℕ) where
-  pub total_none : 0 ≡ total a i b j 0
-  total_none = ap nat_abs (dot_none (drop i a) b j)
+module _ (a b : List ℕ) (j : ℕ) where
+  pub total_none : 0 ≡ total a b j 0
+  total_none = ap nat_abs (dot_none a b j)
 
-  total_more : (x : ℕ) → total a i b j x + get_or a (i + x) 0 * get_or b (j + x) 0 ≡ total a i b j (x + 1)
-  total_more x =
-      ap nat_abs
-      (dot_more (drop i a) b j x (sym (dot_whole (drop i a) b j x)) (ap (λ (y : ℕ). y * get_or b (j + x) 0) (sym (get_or-drop i a x 0))))
+  total_more : (x : ℕ) → total a b j x + get_or a x 0 * get_or b (j + x) 0 ≡ total a b j (x + 1)
+  total_more x = ap nat_abs (dot_more a b j x (sym (dot_whole a b j x)) refl)
 
-  total_two : (x : ℕ)
-      → total a i b j x + (get_or a (i + x) 0 * get_or b (j + x) 0 + get_or a (i + x + 1) 0 * get_or b (j + x + 1) 0) ≡ total a i b j (x + 2)
+  total_two : (x : ℕ) → total a b j x + (get_or a x 0 * get_or b (j + x) 0 + get_or a (x + 1) 0 * get_or b (j + x + 1) 0) ≡ total a b j (x + 2)
   total_two x =
-      let e : i + (x + 1) ≡ i + x + 1 = omega arith in
       let f : j + (x + 1) ≡ j + x + 1 = omega arith in
       let g : x + 1 + 1 ≡ x + 2 = omega arith in
-      let next = ap₂ (λ (y z : ℕ). get_or a y 0 * get_or b z 0) e f in
-      let last = ap (total a i b j) g in
-      omega (arith, total_more x, total_more (x + 1), next, last)
+      let next = ap (λ (z : ℕ). get_or a (x + 1) 0 * get_or b z 0) f in
+      omega (arith, total_more x, total_more (x + 1), next, ap (total a b j) g)
 
-  total-sum : (n : ℕ) → pos (total a i b j n) ≡ sum (λ (x : ℕ). entry a (i + x) *ℤ entry b (j + x)) n
+  total-sum : (n : ℕ) → pos (total a b j n) ≡ sum (λ (x : ℕ). entry a x *ℤ entry b (j + x)) n
   unfolding dot_at
-  total-sum n =
-      sym (dot_whole (drop i a) b j n)
-      ∙ sum_same (λ (x : ℕ). pos (get_or (drop i a) x 0 * get_or b (j + x) 0)) (λ (x : ℕ). entry a (i + x) *ℤ entry b (j + x)) n
-      (λ x l. ap (λ (y : ℕ). pos (y * get_or b (j + x) 0)) (get_or-drop i a x 0))
+  total-sum n = sym (dot_whole a b j n)
 
-under_less : {c : ℕ} {a : List ℕ} {i : ℕ} (n m : ℕ) → n ≤ m → UnderIn c a i m → UnderIn c a i n
-under_less n m l under = record { each = λ k h. under.each k (omega arith) }
+  pub summed_more : {s f r at : ℕ} (x : ℕ) → s ≡ total a b j x → f ≡ get_or a x 0 → r ≡ s + f * get_or b at 0 → at ≡ j + x → r ≡ total a b j (x + 1)
+  summed_more x is factor value place =
+      value ∙ ap₂ ◌+◌ is (ap₂ ◌*◌ factor (ap (λ (y : ℕ). get_or b y 0) place)) ∙ total_more x
 
--- each product is below 2^44
-total_small : (a : List ℕ) (i : ℕ) (b : List ℕ) (j n : ℕ) → UnderIn (2 ^ 24) a i n → T (are_below (2 ^ 20) b) → j + n ≤ length b
-    → total a i b j n ≤ n * (2 ^ 44 - 1)
-total_small a i b j zero under below room = omega (arith, total_none a i b j)
-total_small a i b j (suc n) under below room =
-    let before = total_small a i b j n (under_less n (suc n) (omega arith) under) below (omega arith) in
-    let product = product_below {m = 2 ^ 24} {n = 2 ^ 20} (under.each n (omega arith)) (below_at (2 ^ 20) b below (j + n) (omega arith)) in
-    let last = ap (total a i b j) (add-one n) in
-    omega (arith, before, product, total_more a i b j n, last)
-
-module _ (a : List ℕ) (i : ℕ) (b : List ℕ) (j x : ℕ) {s : ℕ} (is : s ≡ total a i b j x) where
-  -- there is room for more where all of a list's numbers are summed
-  pub summed_room : (n : ℕ) → x ≤ n → n ≤ max_n → UnderIn (2 ^ 24) a i n → T (are_below (2 ^ 20) b) → j + x ≤ length b → s < 2 ^ 55
-  summed_room n l few under below room = omega (arith, is, total_small a i b j x (under_less x n l under) below room)
-
-  -- and a sum of at most 128 can be reduced
-  pub summed_small : x ≤ 128 → UnderIn (2 ^ 24) a i x → T (are_below (2 ^ 20) b) → j + x ≤ length b → s < 2 ^ 51
-  summed_small few under below room = omega (arith, is, total_small a i b j x under below room)
-
-  pub summed_more : {f r at n : ℕ} → f ≡ get_or a (i + x) 0 → r ≡ s + f * get_or b at 0 → at ≡ j + x → x + 1 ≡ n → r ≡ total a i b j n
-  summed_more {f} {r} {at} {n} factor value place next =
-      value
-      ∙ ap₂ ◌+◌ is (ap₂ ◌*◌ factor (ap (λ (y : ℕ). get_or b y 0) place))
-      ∙ total_more a i b j x
-      ∙ ap (total a i b j) next
-
-  pub summed_two : {f g p at : ℕ} → f ≡ get_or a (i + x) 0 → g ≡ get_or a (i + x + 1) 0 → p ≡ f * get_or b at 0 + g * get_or b (at + 1) 0 → at ≡ j + x
-      → s + p ≡ total a i b j (x + 2)
-  summed_two {f} {g} {p} {at} first second value place =
+  pub summed_two : {s f g p at : ℕ} (x : ℕ) → s ≡ total a b j x → f ≡ get_or a x 0 → g ≡ get_or a (x + 1) 0 → p ≡ f * get_or b at 0 + g * get_or b (at + 1) 0
+      → at ≡ j + x → s + p ≡ total a b j (x + 2)
+  summed_two x is first second value place =
       ap₂ ◌+◌ is
       (value ∙ ap₂ ◌+◌ (ap₂ ◌*◌ first (ap (λ (y : ℕ). get_or b y 0) place)) (ap₂ ◌*◌ second (ap (λ (y : ℕ). get_or b (y + 1) 0) place)))
-      ∙ total_two a i b j x
+      ∙ total_two x
+
+-- a sum of at most 128 products, each below 2^44, can be reduced
+module _ (a b : List ℕ) (a-below : T (are_below (2 ^ 24) a)) (b-below : T (are_below (2 ^ 20) b)) where
+  total_small : (j n : ℕ) → n ≤ length a → j + n ≤ length b → total a b j n ≤ n * (2 ^ 44 - 1)
+  total_small j zero few room = omega (arith, total_none a b j)
+  total_small j (suc n) few room =
+      let before = total_small j n (omega arith) (omega arith) in
+      let product = product_below {m = 2 ^ 24} {n = 2 ^ 20} (below_at (2 ^ 24) a a-below n (omega arith)) (below_at (2 ^ 20) b b-below (j + n) (omega arith)) in
+      omega (arith, before, product, total_more a b j n, ap (total a b j) (add-one n))
+
+  pub summed_small : {s : ℕ} (j x : ℕ) → s ≡ total a b j x → x ≤ length a → length a ≤ 128 → j + x ≤ length b → s < 2 ^ 51
+  summed_small j x is few short room = omega (arith, is, total_small j x few room)
+
+  -- what one product more asks
+  pub summed_asks : {s f at : ℕ} (j x : ℕ) → s ≡ total a b j x → x < length a → length a ≤ 128 → j + length a ≤ length b → f ≡ get_or a x 0 → at ≡ j + x
+      → (s < 2 ^ 62) × (f < 2 ^ 24) × (at < length b)
+  summed_asks j x is few short room factor place =
+      (omega (arith, summed_small j x is (omega arith) short (omega arith)), omega (arith, factor, below_at (2 ^ 24) a a-below x few), omega arith)
 
 -- ---- numbers stored one after the other: f of each number from a on
 module _ (f : ℕ → ℕ) where
-  pub stored_size : (l : List ℕ) (i a n : ℕ) {y : List ℕ} → y ≡ sets l i (map f (up_from a n)) → length y ≡ length l
-  stored_size l i a n is = ap length is ∙ length-sets l i (map f (up_from a n))
-
   -- those of n numbers, then those of m more: a turn's, or the rest
   sets_more : (l : List ℕ) (i a n m : ℕ)
       → sets (sets l i (map f (up_from a n))) (i + n) (map f (up_from (a + n) m)) ≡ sets l i (map f (up_from a (n + m)))
@@ -127,16 +109,25 @@ module _ (f : ℕ → ℕ) where
       ∙ sets_more (set l i (f a)) (suc i) (suc a) n m
       ∙ ap (λ (x : ℕ). sets l i (map f (up_from a x))) h
 
-  -- the first n of m, then the rest
-  pub sets_rest : (l : List ℕ) (i n m : ℕ) {y z : List ℕ} → n ≤ m → y ≡ sets l i (map f (up_from 0 n)) → z ≡ sets y (i + n) (map f (up_from n (m - n)))
-      → z ≡ sets l i (map f (up_from 0 m))
-  sets_rest l i n m few first rest =
+  -- the first n of m, then the rest, from the front on
+  pub sets_rest : (l : List ℕ) (n m : ℕ) {y z : List ℕ} → n ≤ m → y ≡ sets l 0 (map f (up_from 0 n)) → z ≡ sets y n (map f (up_from n (m - n)))
+      → z ≡ sets l 0 (map f (up_from 0 m))
+  sets_rest l n m few first rest =
       let from : n ≡ 0 + n = omega arith in
       let all : n + (m - n) ≡ m = omega arith in
       rest
-      ∙ ap₂ (λ (y : List ℕ) (k : ℕ). sets y (i + n) (map f (up_from k (m - n)))) first from
-      ∙ sets_more l i 0 n (m - n)
-      ∙ ap (λ (k : ℕ). sets l i (map f (up_from 0 k))) all
+      ∙ ap₂ (λ (y : List ℕ) (k : ℕ). sets y k (map f (up_from k (m - n)))) first from
+      ∙ sets_more l 0 0 n (m - n)
+      ∙ ap (λ (k : ℕ). sets l 0 (map f (up_from 0 k))) all
+
+  -- all of them are the numbers
+  pub sets_all : (l : List ℕ) {n : ℕ} {y : List ℕ} → length l ≡ n → y ≡ sets l 0 (map f (up_from 0 n)) → y ≡ map f (up_from 0 n)
+  sets_all l {n} size is =
+      let count = up_map-length f 0 n in
+      let vs = map f (up_from 0 n) in
+      is ∙ sets-eq vs l 0 (omega arith)
+      ∙ ap (λ (r : List ℕ). vs ++ r) (drop_of_length-le l {i = 0 + length vs} (omega arith))
+      ∙ append-nil vs
 
   pub stored_more : (l : List ℕ) (i a n : ℕ) {y : List ℕ} {w at m : ℕ} → y ≡ sets l i (map f (up_from a n)) → w ≡ f (a + n) → at ≡ i + n → n + 1 ≡ m
       → set y at w ≡ sets l i (map f (up_from a m))
@@ -146,17 +137,18 @@ module _ (f : ℕ → ℕ) where
       ∙ sets_more l i a n 1
       ∙ ap (λ (x : ℕ). sets l i (map f (up_from a x))) next
 
-  -- four of them
-  pub four_more : (l : List ℕ) (i n : ℕ) {y : List ℕ} {a b c d : ℕ} → y ≡ sets l i (map f (up_from 0 n))
+  -- four of them, from the front on
+  pub four_more : (l : List ℕ) (n : ℕ) {y : List ℕ} {a b c d : ℕ} → y ≡ sets l 0 (map f (up_from 0 n))
       → a ≡ f n → b ≡ f (n + 1) → c ≡ f (n + 2) → d ≡ f (n + 3)
-      → set (set (set (set y (i + n) a) (i + n + 1) b) (i + n + 2) c) (i + n + 3) d ≡ sets l i (map f (up_from 0 (n + 4)))
-  four_more l i n {y} {a} {b} {c} {d} is ea eb ec ed =
-      let at : (k : ℕ) → i + n + k ≡ i + (n + k) = λ k. omega arith in
+      → set (set (set (set y n a) (n + 1) b) (n + 2) c) (n + 3) d ≡ sets l 0 (map f (up_from 0 (n + 4)))
+  four_more l n {y} {a} {b} {c} {d} is ea eb ec ed =
       let from : (k : ℕ) → f k ≡ f (0 + k) = λ k. ap f (omega arith) in
-      let one = stored_more l i 0 n {m = n + 1} is (ea ∙ from n) refl refl in
-      let two = stored_more l i 0 (n + 1) {m = n + 2} one (eb ∙ from (n + 1)) (at 1) (omega arith) in
-      let three = stored_more l i 0 (n + 2) {m = n + 3} two (ec ∙ from (n + 2)) (at 2) (omega arith) in
-      stored_more l i 0 (n + 3) {m = n + 4} three (ed ∙ from (n + 3)) (at 3) (omega arith)
+      let at : (k : ℕ) → k ≡ 0 + k = λ k. omega arith in
+      let next : (k : ℕ) → n + k + 1 ≡ n + (k + 1) = λ k. omega arith in
+      let one = stored_more l 0 0 n {m = n + 1} is (ea ∙ from n) (at n) refl in
+      let two = stored_more l 0 0 (n + 1) {m = n + 2} one (eb ∙ from (n + 1)) (at (n + 1)) (next 1) in
+      let three = stored_more l 0 0 (n + 2) {m = n + 3} two (ec ∙ from (n + 2)) (at (n + 2)) (next 2) in
+      stored_more l 0 0 (n + 3) {m = n + 4} three (ed ∙ from (n + 3)) (at (n + 3)) (next 3)
 
 -- a place before them, and a place among them
 sets_before : (vs l : List ℕ) (i k : ℕ) → k < i → get_or (sets l i vs) k 0 ≡ get_or l k 0
@@ -176,35 +168,77 @@ sets_at (v ∷ vs) l i (suc k) h room =
     ∙ sets_at vs (set l i v) (suc i) k (omega arith) (omega (arith, length-set l i v))
 
 -- ---- rows
--- the product at place v of the block of x from i on with the row from j on
-abbrev pub product : ℕ → List ℕ → ℕ → List ℕ → ℕ → ℕ → ℕ → ℕ
-product q x i rows j l v = folded q (total x i rows (j + v) l)
+-- the product at place v of a block with its row
+abbrev pub product : ℕ → List ℕ → List ℕ → ℕ → ℕ
+product q block row v = folded q (total block row v (length block))
 
-pub product_is : (q : ℕ) (x : List ℕ) (i : ℕ) (rows : List ℕ) (j l v : ℕ) {r s at : ℕ} → r ≡ folded q s → s ≡ total x i rows at l → at ≡ j + v
-    → r ≡ product q x i rows j l v
-product_is q x i rows j l v value is place = value ∙ ap (folded q) (is ∙ ap (λ (y : ℕ). total x i rows y l) place)
+pub product_is : (q : ℕ) (block row : List ℕ) (v : ℕ) {r s at : ℕ} → r ≡ folded q s → s ≡ total block row at (length block) → at ≡ v → r ≡ product q block row v
+product_is q block row v value is place = value ∙ ap (folded q) (is ∙ ap (λ (y : ℕ). total block row y (length block)) place)
 
 -- a block of l places up to the end of all
 pub block_room : (l s k : ℕ) → s < k → s * l + l ≤ k * l
 block_room l s k h = omega (arith, mul-le-mul_right {m = s + 1} {n = k} l (omega arith), add-mul s 1 l)
 
--- the block and the row of root s
-pub block_under : {c : ℕ} {x : List ℕ} (l s k : ℕ) → UnderIn c x 0 (k * l) → s < k → UnderIn c x (s * l) l
-block_under l s k under inside = record { each = λ i h. under_at under (s * l + i) (omega (arith, block_room l s k inside)) }
+-- the numbers from `from` on, as many as `count`
+abbrev pub part : List ℕ → ℕ → ℕ → List ℕ
+part x from count = take count (drop from x)
 
-pub row_room : (rows : List ℕ) (l s k : ℕ) → length rows ≡ k * width l → s < k → s * width l + l + l ≤ length rows + 1
-row_room rows l s k size inside = omega (arith, size, block_room (width l) s k inside)
+part_at : (x : List ℕ) (from count i : ℕ) → i < count → get_or (part x from count) i 0 ≡ get_or x (from + i) 0
+part_at x from count i h = get_or-take count (drop from x) i 0 h ∙ get_or-drop from x i 0
 
-module _ {q k l : ℕ} {x : List ℕ} (rows : List ℕ) (modulus : Modulus q) (few : l ≤ 128) (under : UnderIn (2 ^ 24) x 0 (k * l))
-    (below : T (are_below (2 ^ 20) rows)) (size : length rows ≡ k * width l) {s : ℕ} (inside : s < k) where
+pub part_size : (x : List ℕ) (from count : ℕ) → from + count ≤ length x → length (part x from count) ≡ count
+part_size x from count room = length-take-le count (drop from x) (omega (arith, length-drop from x))
+
+part_below : (b : ℕ) (x : List ℕ) (from count : ℕ) → from + count ≤ length x → ((i : ℕ) → i < count → get_or x (from + i) 0 < b)
+    → T (are_below b (part x from count))
+part_below b x from count room below =
+    all_from (λ (v : ℕ). ltb v b) (part x from count) 0
+    (λ i h.
+    let inside : i < count = omega (arith, part_size x from count room) in
+    lt→ltb (get_or (part x from count) i 0) b (omega (arith, part_at x from count i inside, below i inside)))
+
+module _ {q start l : ℕ} {twists rows x : List ℕ} (set : Staged q start l twists rows) (size : length x ≡ length twists * l)
+    (under : UnderIn (15 * q) x 0 (length x)) {s : ℕ} (inside : s < length twists) where
+  abbrev k : ℕ
+  k = length twists
+
+  abbrev modulus : Modulus q
+  modulus = set.tree.modulus
+
+  -- the block and the row of root s
+  abbrev block : List ℕ
+  block = part x (s * l) l
+
+  abbrev row : List ℕ
+  row = part rows (s * width l) (width l)
+
+  block_size : length block ≡ l
+  block_size = part_size x (s * l) l (omega (arith, size, block_room l s k inside))
+
+  row_size : length row ≡ width l
+  row_size = part_size rows (s * width l) (width l) (omega (arith, set.rows_size, block_room (width l) s k inside))
+
+  pub row_asks : (T (are_below (2 ^ 24) block) × (length block ≤ 128)) × (T (are_below (2 ^ 20) row) × (length row + 1 ≡ length block + length block))
+  row_asks = (
+    (
+      part_below (2 ^ 24) x (s * l) l (omega (arith, size, block_room l s k inside))
+          (λ i h. omega (arith, under_at under (s * l + i) (omega (arith, size, block_room l s k inside)), modulus.to)),
+      omega (arith, block_size, set.short),
+    ),
+    (
+      part_below (2 ^ 20) rows (s * width l) (width l) (omega (arith, set.rows_size, block_room (width l) s k inside))
+          (λ i h. omega (arith, below_at q rows set.rows_below (s * width l + i) (omega (arith, set.rows_size, block_room (width l) s k inside)), modulus.to)),
+      omega (arith, row_size, block_size, set.some),
+    ),
+  )
+
   -- a sum of row s
   abbrev sum_at : ℕ → ℕ
-  sum_at v = total x (s * l) rows (s * width l + v) l
+  sum_at v = total block row v (length block)
 
   sum_small : (v : ℕ) → v < l → sum_at v < 2 ^ 51
   sum_small v h =
-      let small = total_small x (s * l) rows (s * width l + v) l (block_under l s k under inside) below (omega (arith, row_room rows l s k size inside)) in
-      omega (arith, small, few)
+      summed_small block row row_asks.0.0 row_asks.1.0 v (length block) refl (omega arith) row_asks.0.1 (omega (arith, row_asks.1.1, block_size))
 
   row_below : (v : ℕ) → v < l → folded q (sum_at v) < 3 * q
   row_below v h = folded_below modulus (sum_at v) (sum_small v h)
@@ -214,25 +248,37 @@ module _ {q k l : ℕ} {x : List ℕ} (rows : List ℕ) (modulus : Modulus q) (f
       residue-eq (omega (arith, modulus.from))
       (cong_trans (folded-cong modulus (sum_at v) (sum_small v h))
       (cong-eq
-      (total-sum x (s * l) rows (s * width l + v) l
-      ∙ sum_same (λ (i : ℕ). entry x (s * l + i) *ℤ entry rows (s * width l + v + i)) (λ (i : ℕ). entry x (s * l + i) *ℤ pos (row_at l rows s (v + i))) l
+      (total-sum block row v (length block)
+      ∙ ap (sum (λ (i : ℕ). entry block i *ℤ entry row (v + i))) block_size
+      ∙ sum_same (λ (i : ℕ). entry block i *ℤ entry row (v + i)) (λ (i : ℕ). entry x (s * l + i) *ℤ pos (row_at l rows s (v + i))) l
       (λ i b.
-      let at : s * width l + v + i ≡ s * width l + (v + i) = omega arith in
-      ap (λ (y : ℕ). entry x (s * l + i) *ℤ entry rows y) at))))
+      ap₂ (λ (y z : ℕ). pos y *ℤ pos z) (part_at x (s * l) l i b) (part_at rows (s * width l) (width l) (v + i) (omega arith))))))
 
-  -- row s is stored
-  module _ (y : List ℕ) {z : List ℕ} (room : s * l + l ≤ length y) (is : z ≡ sets y (s * l) (map (product q x (s * l) rows (s * width l) l) (up_from 0 l))) where
-    abbrev f : ℕ → ℕ
-    f = product q x (s * l) rows (s * width l) l
+  -- row s is stored: numbers in the place of so many of y
+  module _ (y : List ℕ) {z vs : List ℕ} (room : s * l + l ≤ length y) (is : z ≡ take (s * l) y ++ (vs ++ drop (s * l + l) y))
+      (numbers : vs ≡ map (product q block row) (up_from 0 (length block))) where
+    vs_size : length vs ≡ l
+    vs_size = ap length numbers ∙ up_map-length (product q block row) 0 (length block) ∙ block_size
+
+    stored : z ≡ sets y (s * l) vs
+    stored =
+        is
+        ∙ sym (append_assoc (take (s * l) y) vs (drop (s * l + l) y))
+        ∙ ap (λ (n : ℕ). take (s * l) y ++ vs ++ drop (s * l + n) y) (sym vs_size)
+        ∙ sym (sets-eq vs y (s * l) (omega (arith, vs_size)))
+
+    pub stored_size : length z ≡ length y
+    stored_size = ap length stored ∙ length-sets y (s * l) vs
 
     stored_before : (v : ℕ) → v < s * l → get_or z v 0 ≡ get_or y v 0
-    stored_before v h = ap (λ (t : List ℕ). get_or t v 0) is ∙ sets_before (map f (up_from 0 l)) y (s * l) v h
+    stored_before v h = ap (λ (t : List ℕ). get_or t v 0) stored ∙ sets_before vs y (s * l) v h
 
-    stored_at : (v : ℕ) → v < l → get_or z (s * l + v) 0 ≡ f v
+    stored_at : (v : ℕ) → v < l → get_or z (s * l + v) 0 ≡ folded q (sum_at v)
     stored_at v h =
-        ap (λ (t : List ℕ). get_or t (s * l + v) 0) is
-        ∙ sets_at (map f (up_from 0 l)) y (s * l) v (omega (arith, up_map-length f 0 l)) (omega (arith, room, up_map-length f 0 l))
-        ∙ from_zero_at f l v 0 h
+        ap (λ (t : List ℕ). get_or t (s * l + v) 0) stored
+        ∙ sets_at vs y (s * l) v (omega (arith, vs_size)) (omega (arith, vs_size))
+        ∙ ap (λ (t : List ℕ). get_or t v 0) numbers
+        ∙ from_zero_at (product q block row) (length block) v 0 (omega (arith, block_size))
 
     pub under_more : UnderIn (3 * q) y 0 (s * l) → UnderIn (3 * q) z 0 ((s + 1) * l)
     under_more before =
@@ -257,20 +303,3 @@ module _ {q k l : ℕ} {x : List ℕ} (rows : List ℕ) (modulus : Modulus q) (f
               let early : a * l + v < s * l = omega (arith, block_room l a s less) in
               ap (λ (i : ℕ). residue (pos i) q) (stored_before (a * l + v) early) ∙ before.each a v less b);
         }
-
--- ---- before the first row
-pub rows_room : (l k : ℕ) → k * l ≤ max_n → k * width l ≤ 2 * max_n
-rows_room l k h = omega (arith, mul-le-mul_left {m = width l} {n = l + l} k (omega arith), mul-add k l l)
-
-pub all_under : {q n : ℕ} {x : List ℕ} → Modulus q → length x ≡ n → UnderIn (15 * q) x 0 (length x) → UnderIn (2 ^ 24) x 0 n
-all_under modulus size under = record { each = λ i h. omega (arith, under.each i (omega (arith, size)), modulus.to) }
-
-pub all_below : {q : ℕ} (rows : List ℕ) → Modulus q → T (are_below q rows) → T (are_below (2 ^ 20) rows)
-all_below {q} rows modulus below =
-    all_weaker (λ (v : ℕ). ltb v q) (λ (v : ℕ). ltb v (2 ^ 20)) (λ x t. lt→ltb x (2 ^ 20) (omega (arith, ltb→lt x q t, modulus.to))) rows below
-
-pub products_none : (q l : ℕ) (x rows y : List ℕ) → Products q 0 l x rows y
-products_none q l x rows y = record { each = λ s v h b. absurd (omega arith) }
-
-pub under_none : (q l : ℕ) (y : List ℕ) → UnderIn q y 0 (0 * l)
-under_none q l y = record { each = λ v h. absurd (omega (arith, zero-mul l)) }

@@ -2,8 +2,7 @@
 -- Assumes nothing.
 use mathlib.Core.Path.{◌≡◌, sym, ap, ◌∙◌, subst}
 use mathlib.Core.List.{List, [], ◌∷◌}
-use Prim.Native.Nat.{ℕ, ◌-◌, ◌*◌, ◌/◌, ◌<◌, ◌≤◌}
-use native.Mathlib.Nat.{mul-le-mul_left, mul-one}
+use Prim.Native.Nat.{ℕ, ◌-◌, ◌*◌, ◌/◌, ◌<◌}
 use native.Mathlib.Omega.{arith}
 use lib.ListN.{length, get_or}
 use Rattle.parameters.specs.declared.Params.{Params}
@@ -52,12 +51,3 @@ module _ {p : Params} {order twists rows : List ℕ} (sound : Sound p) (fitting 
         short = u.short;
         some = u.some;
       }
-
-  pub orders_all : length order ≡ length twists * (shape_of p.n).l
-  orders_all = tables.generator.size ∙ sym (whole sound several_of tables)
-
-  -- there are no more roots than numbers
-  pub roots_few : (shape_of p.n).k ≤ p.n - 1
-  roots_few =
-      let u = usual p.n in
-      omega (arith, tables.shape, mul-le-mul_left (shape_of p.n).k u.some, mul-one (shape_of p.n).k)

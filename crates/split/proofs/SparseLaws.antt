@@ -1,27 +1,28 @@
 -- The loops of the sums for a challenge, one turn at a time: the powers twice, a row added, the rows of all coefficients.
 -- Assumes nothing.
 use mathlib.Core.Path.{◌≡◌, refl, sym, ap, ap₂, ◌∙◌}
-use mathlib.Core.Bool.{true, false}
+use mathlib.Core.Bool.{false}
 use mathlib.Core.List.{List, map}
 use mathlib.Core.Logic.{⊎_elim}
 use Prim.Native.Nat.{ℕ, ◌+◌, ◌-◌, ◌*◌, ◌^◌, ◌<◌, ◌≤◌}
 use native.Mathlib.Nat.{mod-eq_of_lt, mul-le-mul, le_of_lt}
 use native.Mathlib.Numerals.{add-one}
 use native.Mathlib.Omega.{arith}
-use borrow.Author.Tests.{ltb-true, ltb-false}
+use borrow.Author.Tests.{ltb-false}
 use lib.Dec.{T, leb, le→leb}
 use lib.IntN.{ℤ, pos, negsuc, ◌+ℤ◌, ◌*ℤ◌, nat_abs}
-use lib.Signed.{mag, lt_z}
-use lib.ListN.{length, get_or, take, drop, set, replicate, length-set, length-map, length-take, length-replicate, get_or-replicate, take-append-drop, get_or-map}
+use lib.Signed.{lt_z}
+use lib.ListN.{length, get_or, take, drop, set, length-set, length-map, length-take, take-append-drop, get_or-map}
 use lib.Seq.{take_all, get_or-take, get_or-drop}
-use mir.Syntax.{w32}
-use mir.Val.{to_z, of_z, hbits}
+use mir.Facts.{to_z-of_z, to_z_pos}
+use mir.Syntax.{w8, w32}
+use mir.Val.{SFits, to_z, of_z}
 use Rattle.algebra.specs.All.{are_below}
 use Rattle.algebra.specs.Integer.{within}
 use Rattle.algebra.proofs.Absolute.{abs-add, abs-mul}
 use Rattle.algebra.proofs.All.{all_from, all-append, all-drop, below_at}
 use Rattle.algebra.proofs.Remainder.{round_once}
-use Rattle.algebra.proofs.Signed.{reread, read_same}
+use Rattle.algebra.proofs.Signed.{fits_signed}
 use Rattle.algebra.proofs.Test.{and_left, true_holds, lt_or_le}
 use Rattle.parameters.specs.Limits.{max_n}
 use Rattle.polynomial.specs.Polynomial.{coefficient, add, scale, ternary}
@@ -31,7 +32,7 @@ use Rattle.transform.specs.Asks as asks
 use Rattle.transform.specs.Convolution.{entry}
 use Rattle.transform.specs.UpFrom.{up_from}
 use Rattle.transform.proofs.UpFrom.{from_zero_at}
-use Rattle.split.specs.Sparse.{Twice, SparseSums, sparse_sum}
+use Rattle.split.specs.Sparse.{Twice, sparse_sum}
 
 -- ---- the powers in the order of a table, twice: a list that has them backwards, backwards and twice
 module _ (powers order : List ℕ) where
@@ -87,29 +88,39 @@ module _ {a : ℤ} {z : List ℤ} {row : List ℕ} where
               ∙ ap (λ (k : ℕ). add z (scale a (take k (map pos row)))) (sym (add-one i));
         }
 
-    -- the number of a turn, read as the machine has it: what the turn asks of it and of the row's, and the sum that it writes back
-    module _ (more : i < length row) (given : mag (coefficient l i) < 2 ^ hbits w32) where
-      pub added_asks : T (within (max_n * 2 ^ 20) z) → T (are_below (2 ^ 20) row)
-          → (nat_abs (to_z w32 (of_z w32 (coefficient l i))) ≤ max_n * 2 ^ 20) × (get_or row i 0 < 2 ^ 20)
-      added_asks small low =
-          (rw (read_same w32 l i given, added_kept more) (within-coefficient (max_n * 2 ^ 20) z i small), below_at (2 ^ 20) row low i more)
+    -- the number that a turn adds to, and what it adds, where the sign is 1, 0 or -1: the sum as the machine works it out
+    module _ (more : i < length row) (small : T (within (max_n * 2 ^ 20) z)) (low : T (are_below (2 ^ 20) row)) (sign : nat_abs a ≤ 1) where
+      held : nat_abs (coefficient l i) ≤ max_n * 2 ^ 20
+      held = rw (added_kept more) (within-coefficient (max_n * 2 ^ 20) z i small)
 
-      pub added_turn : {x : ℤ} → mag x < 2 ^ hbits w32 → x ≡ to_z w32 (of_z w32 (coefficient l i)) +ℤ a *ℤ pos (get_or row i 0)
-          → Added a z row (set l i (to_z w32 (of_z w32 x))) (i + 1)
-      added_turn {x} fits e = added_more more (reread w32 x fits ∙ e ∙ ap (λ (y : ℤ). y +ℤ a *ℤ pos (get_or row i 0)) (read_same w32 l i given))
+      number_small : get_or row i 0 < 2 ^ 20
+      number_small = below_at (2 ^ 20) row low i more
+
+      product_small : nat_abs (a *ℤ pos (get_or row i 0)) ≤ 2 ^ 20
+      product_small = omega (arith, abs-mul a (pos (get_or row i 0)), mul-le-mul sign (le_of_lt number_small))
+
+      sum_small : nat_abs (coefficient l i +ℤ a *ℤ pos (get_or row i 0)) ≤ (max_n + 1) * 2 ^ 20
+      sum_small = omega (arith, abs-add (coefficient l i) (a *ℤ pos (get_or row i 0)), held, product_small)
+
+      abbrev turned : ℤ
+      turned = to_z w32 (of_z w32 (coefficient l i)) +ℤ to_z w32 (of_z w32 (a *ℤ to_z w32 (get_or row i 0)))
+
+      turned_is : turned ≡ coefficient l i +ℤ a *ℤ pos (get_or row i 0)
+      turned_is =
+          ap₂ ◌+ℤ◌ (to_z-of_z (fits_signed w32 (coefficient l i) (omega (arith, held))))
+          (ap (λ (y : ℤ). to_z w32 (of_z w32 (a *ℤ y))) (to_z_pos w32 (omega (arith, number_small)))
+          ∙ to_z-of_z (fits_signed w32 (a *ℤ pos (get_or row i 0)) (omega (arith, product_small))))
+
+      pub turned_fits : SFits w32 turned
+      turned_fits = rw turned_is (fits_signed w32 (coefficient l i +ℤ a *ℤ pos (get_or row i 0)) (omega (arith, sum_small)))
+
+      pub turned_more : Added a z row (set l i (to_z w32 (of_z w32 turned))) (i + 1)
+      turned_more = added_more more (to_z-of_z turned_fits ∙ turned_is)
 
     pub added_all : length row ≤ i → l ≡ add z (scale a (map pos row))
     added_all h = s.value ∙ ap (λ (u : List ℤ). add z (scale a u)) (take_all i (map pos row) (omega (arith, length-map row pos)))
 
 -- ---- a number of -1, 0 and 1, by its sign
-pub is_one : (a : ℤ) → nat_abs a ≤ 1 → lt_z (pos 0) a ≡ true → a ≡ pos 1
-is_one (pos n) h t = ap pos (omega (arith, ltb-true 0 n t))
-is_one (negsuc n) h t = absurd (true_holds t)
-
-pub is_minus_one : (a : ℤ) → nat_abs a ≤ 1 → lt_z a (pos 0) ≡ true → a ≡ negsuc 0
-is_minus_one (pos n) h t = let l : n < 0 = ltb-true n 0 t in absurd (omega arith)
-is_minus_one (negsuc n) h t = ap negsuc (omega arith)
-
 pub is_zero : (a : ℤ) → lt_z (pos 0) a ≡ false → lt_z a (pos 0) ≡ false → a ≡ pos 0
 is_zero (pos n) s t = ap pos (omega (arith, ltb-false 0 n s))
 is_zero (negsuc n) s t = absurd (true_holds (sym t))
@@ -124,6 +135,10 @@ row_below b t m n h =
     and_left (are_below b (take n u)) (are_below b (drop n u))
     (rw (← all-append _ (take n u) (drop n u), take-append-drop n u) (all-drop _ m t h))
 
+-- a coefficient as the machine reads it
+pub coefficient_read : (f : List ℤ) (i : ℕ) → T (ternary f) → to_z w8 (of_z w8 (coefficient f i)) ≡ coefficient f i
+coefficient_read f i small = to_z-of_z (fits_signed w8 (coefficient f i) (omega (arith, within-coefficient 1 f i small)))
+
 -- ---- the sums of the first m coefficients in the order of a table
 pub record SumsOf (f : List ℤ) (order t : List ℕ) (l : List ℤ) (m : ℕ) : Type 0 where
   pub below : m ≤ length order
@@ -131,19 +146,7 @@ pub record SumsOf (f : List ℤ) (order t : List ℕ) (l : List ℤ) (m : ℕ) :
   pub each : (v : ℕ) → v < length order → coefficient l v ≡ sparse_sum f order t m v
   pub room : (v : ℕ) → v < length order → nat_abs (coefficient l v) ≤ m * 2 ^ 20
 
-none_at : {l : List ℤ} (n : ℕ) → l ≡ replicate n (pos 0) → (v : ℕ) → v < n → coefficient l v ≡ pos 0
-none_at n e v h = ap (λ (u : List ℤ). coefficient u v) e ∙ get_or-replicate n v (pos 0) (pos 0) h
-
 module _ {f : List ℤ} {order t : List ℕ} where
-  pub sums_none : {l : List ℤ} → l ≡ replicate (length order) (pos 0) → SumsOf f order t l 0
-  sums_none e =
-      record {
-        below = omega arith;
-        size = ap length e ∙ length-replicate (length order) (pos 0);
-        each = none_at (length order) e;
-        room = λ v h. omega (arith, ap nat_abs (none_at (length order) e v h));
-      }
-
   module _ {l : List ℤ} {m : ℕ} (s : SumsOf f order t l m) where
     pub sums_within : length order ≤ max_n → T (within (max_n * 2 ^ 20) l)
     sums_within h =
@@ -189,8 +192,3 @@ module _ {f : List ℤ} {order t : List ℕ} where
               s.room v b,
             );
           }
-
-    pub sums_all : length order ≤ m → SparseSums f order t l
-    sums_all h =
-        let done : m ≡ length order = omega (arith, s.below) in
-        record { each = λ v b. s.each v b ∙ ap (λ (k : ℕ). sparse_sum f order t k v) done }

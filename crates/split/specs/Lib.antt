@@ -3,3 +3,4 @@ pub mod Levels
 pub mod Products
 pub mod Sparse
 pub mod Values
+pub mod StagedOnce

@@ -1,17 +1,18 @@
 // The middle stage: for each root the product of its block with its row of the table. Four sums at a time over the same numbers of the block, two terms a turn.
-ghost use Rattle.std.specs.Prelude.{◌≡◌, map, ◌+◌, ◌-◌, ◌*◌, ◌^◌, ◌<◌, ◌≤◌, T, nat_abs, length, get_or, drop};
+ghost use Rattle.std.specs.Prelude.{◌≡◌, map, ◌+◌, ◌-◌, ◌*◌, ◌^◌, ◌<◌, ◌≤◌, T, nat_abs, length, get_or};
 ghost use Rattle.std.proofs.lemmas.List.Edits.{sets};
 ghost use Rattle.algebra.specs.All.{are_below};
 ghost use Rattle.parameters.specs.Limits.{max_n};
 ghost use Rattle.transform.specs.Asks.{dot_at};
 ghost use Rattle.transform.specs.UpFrom.{up_from};
-ghost use Rattle.split_tables.specs.Split.{width};
-ghost use Rattle.split.specs.Fold.{Modulus, inverse, folded};
+ghost use Rattle.split.specs.Fold.{folded};
 ghost use Rattle.split.specs.Levels.{UnderIn};
-ghost use Rattle.split.specs.Products.{Products};
+ghost use Rattle.split.specs.Products.{Products, FourDots};
 
-use crate::fold::{fold, wide};
+use crate::fold::Reducer;
+use crate::stages::Stages;
 
+// Four sums.
 #[derive(Drop)]
 pub struct Four {
     pub a: u64,
@@ -25,7 +26,7 @@ fn plus_product(s: u64, f: u64, b: &[u32], at: usize) -> u64
     requires { (s < 2 ^ 62) × (f < 2 ^ 24) × (at < length b.now) }
     ensures { result ≡ s + f * get_or b.now at 0 }
 {
-    s + f * wide(b[at])
+    s + f * u64::from(b[at])
 }
 
 // A factor times a number of b, and another times the next one.
@@ -34,165 +35,133 @@ fn two_products(f: u64, g: u64, b: &[u32], at: usize) -> u64
     ensures value { result ≡ f * get_or b.now at 0 + g * get_or b.now (at + 1) 0 }
     ensures small { result < 2 ^ 57 }
 {
-    f * wide(b[at]) + g * wide(b[at + 1])
+    f * u64::from(b[at]) + g * u64::from(b[at + 1])
 }
 
-// The products at place x added to four sums of x products each, where x is below n.
-fn with_last(four: Four, a: &[u32], i: usize, b: &[u32], j: usize, x: usize, n: usize) -> Four
-    requires under_in { UnderIn (2 ^ 24) a.now i n × (i + n ≤ length a.now) × (length a.now ≤ max_n) }
-    requires b_below { T (are_below (2 ^ 20) b.now) × (j + n + 3 ≤ length b.now) × (length b.now ≤ 2 * max_n) }
-    requires x_le_n { (x ≤ n) × (n ≤ x + 1)
-        × (four.a ≡ nat_abs (dot_at (drop i a.now) b.now j x))
-        × (four.b ≡ nat_abs (dot_at (drop i a.now) b.now (j + 1) x))
-        × (four.c ≡ nat_abs (dot_at (drop i a.now) b.now (j + 2) x))
-        × (four.d ≡ nat_abs (dot_at (drop i a.now) b.now (j + 3) x)) }
-    ensures { (result.a ≡ nat_abs (dot_at (drop i a.now) b.now j n))
-        × (result.b ≡ nat_abs (dot_at (drop i a.now) b.now (j + 1) n))
-        × (result.c ≡ nat_abs (dot_at (drop i a.now) b.now (j + 2) n))
-        × (result.d ≡ nat_abs (dot_at (drop i a.now) b.now (j + 3) n)) }
-{
-    if x < n {
-        let f = wide(a[i + x]);
-        Four {
-            a: plus_product(four.a, f, b, j + x),
-            b: plus_product(four.b, f, b, j + x + 1),
-            c: plus_product(four.c, f, b, j + x + 2),
-            d: plus_product(four.d, f, b, j + x + 3),
+// A block of at most 128 numbers and its row of the table, which has twice as many less one.
+#[derive(Clone, Copy)]
+struct Row<'a> {
+    block: &'a [u32],
+    row: &'a [u32],
+    ghost block_below: { T (are_below (2 ^ 24) block.now) × (length block.now ≤ 128) },
+    ghost row_below: { T (are_below (2 ^ 20) row.now) × (length row.now + 1 ≡ length block.now + length block.now) },
+}
+
+impl<'a> Row<'a> {
+    // The products at place x added to four sums of x products each, where at most one is left.
+    fn with_last(&self, four: Four, v: usize, x: usize) -> Four
+        requires v_in_bounds { v + 4 ≤ length self.now.block.now }
+        requires x_le_n { let r = self.now in (x ≤ length r.block.now) × (length r.block.now ≤ x + 1) × FourDots four r.block.now r.row.now v x }
+        ensures { let r = self.now in FourDots result r.block.now r.row.now v (length r.block.now) }
+    {
+        if x < self.block.len() {
+            let f = u64::from(self.block[x]);
+            Four {
+                a: plus_product(four.a, f, self.row, v + x),
+                b: plus_product(four.b, f, self.row, v + x + 1),
+                c: plus_product(four.c, f, self.row, v + x + 2),
+                d: plus_product(four.d, f, self.row, v + x + 3),
+            }
+        } else {
+            four
         }
-    } else {
-        four
+    }
+
+    // Four sums: the numbers of the block times those of the row from v, v + 1, v + 2 and v + 3 on.
+    fn four_dots(&self, v: usize) -> Four
+        requires { v + 4 ≤ length self.now.block.now }
+        ensures { let r = self.now in FourDots result r.block.now r.row.now v (length r.block.now) }
+    {
+        let a = self.block;
+        let b = self.row;
+        let mut s0: u64 = 0;
+        let mut s1: u64 = 0;
+        let mut s2: u64 = 0;
+        let mut s3: u64 = 0;
+        for pair in 0..a.len() / 2 {
+            let x = 2 * pair;
+            let f = u64::from(a[x]);
+            let g = u64::from(a[x + 1]);
+            s0 += two_products(f, g, b, v + x);
+            s1 += two_products(f, g, b, v + x + 1);
+            s2 += two_products(f, g, b, v + x + 2);
+            s3 += two_products(f, g, b, v + x + 3);
+        }
+        let even = Four {
+            a: s0,
+            b: s1,
+            c: s2,
+            d: s3,
+        };
+        self.with_last(even, v, 2 * (a.len() / 2))
+    }
+
+    // One such sum.
+    fn dot(&self, v: usize) -> u64
+        requires { v < length self.now.block.now }
+        ensures { let r = self.now in result ≡ nat_abs (dot_at r.block.now r.row.now v (length r.block.now)) }
+    {
+        let mut s: u64 = 0;
+        for x in 0..self.block.len() {
+            s = plus_product(s, u64::from(self.block[x]), self.row, v + x);
+        }
+        s
+    }
+
+    // The products of the block with the row, each reduced: four at a time as long as there are as many; returned is how many.
+    fn fill_by_four(&self, reducer: Reducer, out: &mut [u32]) -> usize
+        requires { length out.old ≡ length self.now.block.now }
+        ensures few { result ≤ length self.now.block.now }
+        ensures filled { let r = self.now in out.new ≡ sets out.old 0 (map (λ v. folded reducer.q (nat_abs (dot_at r.block.now r.row.now v (length r.block.now)))) (up_from 0 result)) }
+    {
+        let turns = self.block.len() / 4;
+        for turn in 0..turns {
+            let v = 4 * turn;
+            let sums = self.four_dots(v);
+            out[v] = reducer.fold(sums.a);
+            out[v + 1] = reducer.fold(sums.b);
+            out[v + 2] = reducer.fold(sums.c);
+            out[v + 3] = reducer.fold(sums.d);
+        }
+        4 * turns
+    }
+
+    // The same one at a time, from product n on.
+    fn fill_singly(&self, reducer: Reducer, out: &mut [u32], n: usize)
+        requires { (length out.old ≡ length self.now.block.now) × (n ≤ length self.now.block.now) }
+        ensures { let r = self.now in out.new ≡ sets out.old n (map (λ v. folded reducer.q (nat_abs (dot_at r.block.now r.row.now v (length r.block.now)))) (up_from n (length r.block.now - n))) }
+    {
+        for v in n..self.block.len() {
+            out[v] = reducer.fold(self.dot(v));
+        }
+    }
+
+    // All of them.
+    fn fill(&self, reducer: Reducer, out: &mut [u32])
+        requires { length out.old ≡ length self.now.block.now }
+        ensures { let r = self.now in out.new ≡ map (λ v. folded reducer.q (nat_abs (dot_at r.block.now r.row.now v (length r.block.now)))) (up_from 0 (length r.block.now)) }
+    {
+        let n = self.fill_by_four(reducer, out);
+        self.fill_singly(reducer, out, n);
     }
 }
 
-// Four sums of n products each: numbers of a from i on times numbers of b from j, j + 1, j + 2 and j + 3 on.
-fn four_dots(a: &[u32], i: usize, b: &[u32], j: usize, n: usize) -> Four
-    requires under_in { UnderIn (2 ^ 24) a.now i n × (i + n ≤ length a.now) × (length a.now ≤ max_n) }
-    requires b_below { T (are_below (2 ^ 20) b.now) × (j + n + 3 ≤ length b.now) × (length b.now ≤ 2 * max_n) }
-    ensures { (result.a ≡ nat_abs (dot_at (drop i a.now) b.now j n))
-        × (result.b ≡ nat_abs (dot_at (drop i a.now) b.now (j + 1) n))
-        × (result.c ≡ nat_abs (dot_at (drop i a.now) b.now (j + 2) n))
-        × (result.d ≡ nat_abs (dot_at (drop i a.now) b.now (j + 3) n)) }
-{
-    let mut s0: u64 = 0;
-    let mut s1: u64 = 0;
-    let mut s2: u64 = 0;
-    let mut s3: u64 = 0;
-    let mut x: usize = 0;
-    while x + 2 <= n {
-        let f = wide(a[i + x]);
-        let g = wide(a[i + x + 1]);
-        s0 += two_products(f, g, b, j + x);
-        s1 += two_products(f, g, b, j + x + 1);
-        s2 += two_products(f, g, b, j + x + 2);
-        s3 += two_products(f, g, b, j + x + 3);
-        x += 2;
-    }
-    let even = Four {
-        a: s0,
-        b: s1,
-        c: s2,
-        d: s3,
-    };
-    with_last(even, a, i, b, j, x, n)
-}
-
-// One such sum.
-fn dot(a: &[u32], i: usize, b: &[u32], j: usize, n: usize) -> u64
-    requires under_in { UnderIn (2 ^ 24) a.now i n × (i + n ≤ length a.now) × (length a.now ≤ max_n) }
-    requires b_below { T (are_below (2 ^ 20) b.now) × (j + n ≤ length b.now) × (length b.now ≤ 2 * max_n) }
-    ensures { result ≡ nat_abs (dot_at (drop i a.now) b.now j n) }
-{
-    let mut s: u64 = 0;
-    let mut x: usize = 0;
-    while x < n {
-        s = plus_product(s, wide(a[i + x]), b, j + x);
-        x += 1;
-    }
-    s
-}
-
-// The products of the block of l numbers of x from i on with the row from j on, each reduced, into y from i on: four at a time as long as l has room; returned
-// is how many.
-fn fill_by_four(
-    x: &[u32],
-    i: usize,
-    rows: &[u32],
-    j: usize,
-    l: usize,
-    q: u32,
-    m: u32,
-    y: &mut [u32],
-) -> usize
-    requires modulus { Modulus q × (m ≡ inverse q) × (l ≤ 128) }
-    requires under_in { UnderIn (2 ^ 24) x.now i l × (i + l ≤ length x.now) × (length x.now ≤ max_n) × (i + l ≤ length y.old) }
-    requires rows_below { T (are_below (2 ^ 20) rows.now) × (j + l + l ≤ length rows.now + 1) × (length rows.now ≤ 2 * max_n) }
-    ensures few { result ≤ l }
-    ensures filled { y.new ≡ sets y.old i
-        (map (λ v. folded q (nat_abs (dot_at (drop i x.now) rows.now (j + v) l))) (up_from 0 result)) }
-{
-    let mut v: usize = 0;
-    while v + 4 <= l {
-        let f = four_dots(x, i, rows, j + v, l);
-        let at = i + v;
-        y[at] = fold(f.a, q, m);
-        y[at + 1] = fold(f.b, q, m);
-        y[at + 2] = fold(f.c, q, m);
-        y[at + 3] = fold(f.d, q, m);
-        v += 4;
-    }
-    v
-}
-
-// The same one at a time, from product n on.
-fn fill_singly(
-    x: &[u32],
-    i: usize,
-    rows: &[u32],
-    j: usize,
-    l: usize,
-    q: u32,
-    m: u32,
-    y: &mut [u32],
-    n: usize,
-)
-    requires modulus { Modulus q × (m ≡ inverse q) × (l ≤ 128) × (n ≤ l) }
-    requires under_in { UnderIn (2 ^ 24) x.now i l × (i + l ≤ length x.now) × (length x.now ≤ max_n) × (i + l ≤ length y.old) }
-    requires rows_below { T (are_below (2 ^ 20) rows.now) × (j + l + l ≤ length rows.now + 1) × (length rows.now ≤ 2 * max_n) }
-    ensures { y.new ≡ sets y.old (i + n)
-        (map (λ v. folded q (nat_abs (dot_at (drop i x.now) rows.now (j + v) l))) (up_from n (l - n))) }
-{
-    let mut v = n;
-    while v < l {
-        y[i + v] = fold(dot(x, i, rows, j + v, l), q, m);
-        v += 1;
-    }
-}
-
-// All l of them.
-fn fill_row(x: &[u32], i: usize, rows: &[u32], j: usize, l: usize, q: u32, m: u32, y: &mut [u32])
-    requires modulus { Modulus q × (m ≡ inverse q) × (l ≤ 128) }
-    requires under_in { UnderIn (2 ^ 24) x.now i l × (i + l ≤ length x.now) × (length x.now ≤ max_n) × (i + l ≤ length y.old) }
-    requires rows_below { T (are_below (2 ^ 20) rows.now) × (j + l + l ≤ length rows.now + 1) × (length rows.now ≤ 2 * max_n) }
-    ensures { y.new ≡ sets y.old i
-        (map (λ v. folded q (nat_abs (dot_at (drop i x.now) rows.now (j + v) l))) (up_from 0 l)) }
-{
-    let n = fill_by_four(x, i, rows, j, l, q, m, y);
-    fill_singly(x, i, rows, j, l, q, m, y, n);
-}
-
-// For each of k roots, the product of its block of x with its row of the table.
-pub fn multiply(x: &[u32], rows: &[u32], k: usize, l: usize, q: u32, m: u32, y: &mut [u32])
-    requires modulus { Modulus q × (m ≡ inverse q) × T (are_below q rows.now) × (length rows.now ≡ k * width l) }
-    requires x_len { (length x.now ≡ k * l) × (length y.old ≡ k * l) × (k * l ≤ max_n) × (l ≤ 128) × UnderIn (15 * q) x.now 0 (length x.now) }
-    requires l_nonzero { 0 < l }
+// For each root the product of its block of x with its row of the table.
+pub fn multiply(x: &[u32], stages: &Stages, y: &mut [u32])
+    requires x_len { let s = stages.now in (length x.now ≡ length s.twists.now * s.l) × (length y.old ≡ length s.twists.now * s.l) × UnderIn (15 * s.reducer.q) x.now 0 (length x.now) }
     ensures size { length y.new ≡ length y.old }
-    ensures under { UnderIn (3 * q) y.new 0 (length y.new) }
-    ensures each { Products q k l x.now rows.now y.new }
+    ensures under { UnderIn (3 * stages.now.reducer.q) y.new 0 (length y.new) }
+    ensures each { let s = stages.now in Products s.reducer.q (length s.twists.now) s.l x.now s.rows.now y.new }
 {
-    let row = 2 * l - 1;
-    let mut s: usize = 0;
-    while s < k {
-        fill_row(x, s * l, rows, s * row, l, q, m, y);
-        s += 1;
+    let l = stages.l;
+    let width = 2 * l - 1;
+    for s in 0..stages.twists.len() {
+        let at = s * l;
+        let from = s * width;
+        let row = Row {
+            block: &x[at..at + l],
+            row: &stages.rows[from..from + width],
+        };
+        row.fill(stages.reducer, &mut y[at..at + l]);
     }
 }

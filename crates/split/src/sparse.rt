@@ -6,65 +6,33 @@ ghost use Rattle.parameters.specs.Limits.{max_n};
 ghost use Rattle.polynomial.specs.Polynomial.{add, scale, ternary};
 ghost use Rattle.split.specs.Sparse.{Twice, SparseSums};
 
-use parameters::MAX_N;
-
 // Room for twice the largest table.
 pub const TWICE_MAX_N: usize = 2306;
 
 // The powers of g in the order of a table, twice, one after the other.
-pub fn powers_twice(powers: &[u32; MAX_N], order: &[u32]) -> [u32; TWICE_MAX_N]
-    requires { (length order.now ≤ max_n) × T (are_below max_n order.now) }
+pub fn powers_twice(powers: &[u32], order: &[u32]) -> [u32; TWICE_MAX_N]
+    requires { (length order.now ≤ max_n) × T (are_below (length powers.now) order.now) }
     ensures { Twice powers.now order.now result }
 {
     let n = order.len();
     let mut t = [0u32; TWICE_MAX_N];
-    let mut i: usize = 0;
-    while i < n {
+    for i in 0..n {
         let x = powers[order[i] as usize];
         t[i] = x;
         t[n + i] = x;
-        i += 1;
     }
     t
 }
 
-// z + x, where the sum fits 32 bits.
-fn plus(z: i32, x: u32) -> i32
-    requires { (nat_abs z ≤ max_n * 2 ^ 20) × (x < 2 ^ 20) }
-    ensures { result ≡ z +ℤ pos 1 *ℤ pos x }
+// Adds a row to the sums, or takes it off. A sign that the compiler knows leaves no branch and no multiplication inside the loop, so that it takes several
+// numbers at once.
+fn add_signed<const SIGN: i32>(sums: &mut [i32], row: &[u32])
+    requires sign { nat_abs SIGN ≤ 1 }
+    requires row_len { (length row.now ≡ length sums.old) × T (within (max_n * 2 ^ 20) sums.old) × T (are_below (2 ^ 20) row.now) }
+    ensures { sums.new ≡ add sums.old (scale SIGN (map pos row.now)) }
 {
-    z + (x as i32)
-}
-
-// z - x, likewise.
-fn minus(z: i32, x: u32) -> i32
-    requires { (nat_abs z ≤ max_n * 2 ^ 20) × (x < 2 ^ 20) }
-    ensures { result ≡ z +ℤ negsuc 0 *ℤ pos x }
-{
-    z - (x as i32)
-}
-
-// Adds a row to the sums. No branch and no multiplication inside the loop, so that the compiler takes several numbers at once.
-fn add_row(sums: &mut [i32], row: &[u32])
-    requires { (length row.now ≡ length sums.old) × T (within (max_n * 2 ^ 20) sums.old) × T (are_below (2 ^ 20) row.now) }
-    ensures { sums.new ≡ add sums.old (scale (pos 1) (map pos row.now)) }
-{
-    let mut v: usize = 0;
-    while v < row.len() {
-        sums[v] = plus(sums[v], row[v]);
-        v += 1;
-    }
-}
-
-// Takes a row off the sums.
-fn subtract_row(sums: &mut [i32], row: &[u32])
-    requires { (length row.now ≡ length sums.old) × T (within (max_n * 2 ^ 20) sums.old) × T (are_below (2 ^ 20) row.now) }
-    ensures { sums.new ≡ add sums.old (scale (negsuc 0) (map pos row.now)) }
-{
-    let mut v: usize = 0;
-    while v < row.len() {
-        sums[v] = minus(sums[v], row[v]);
-        v += 1;
+    for v in 0..row.len() {
+        sums[v] += SIGN * row[v] as i32;
     }
 }
 
@@ -75,9 +43,9 @@ fn add_multiple(sums: &mut [i32], row: &[u32], a: i8)
     ensures { sums.new ≡ add sums.old (scale a (map pos row.now)) }
 {
     if a > 0 {
-        add_row(sums, row);
+        add_signed::<1>(sums, row);
     } else if a < 0 {
-        subtract_row(sums, row);
+        add_signed::<-1>(sums, row);
     }
 }
 
@@ -90,9 +58,7 @@ pub fn sparse_sums(c: &[i8], order: &[u32], twice: &[u32], sums: &mut [i32])
     ensures small { T (within (max_n * 2 ^ 20) sums.new) }
 {
     let n = order.len();
-    let mut m: usize = 0;
-    while m < n {
+    for m in 0..n {
         add_multiple(sums, &twice[m..m + n], c[order[m] as usize]);
-        m += 1;
     }
 }

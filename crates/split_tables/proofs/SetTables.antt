@@ -1,24 +1,32 @@
--- The tables of a set are a split's: one arm of the match on a set.
+-- A table that passes the test is a split's table.
 -- Assumes nothing.
-use mathlib.Core.Path.{◌≡◌, sym, ap, ap₂, subst, ◌∙◌}
-use mathlib.Core.List.{List, ◌++◌}
-use Prim.Native.Nat.{ℕ, ◌+◌, ◌-◌, ◌*◌, ◌<◌, ◌≤◌}
+use mathlib.Core.Path.{◌≡◌, refl, sym, ap, subst, ◌∙◌}
+use mathlib.Core.Bool.{Bool, true, false, cond}
+use mathlib.Core.List.{List, [], ◌∷◌, ◌++◌}
+use Prim.Native.Nat.{ℕ, zero, suc, ◌-◌, ◌*◌, ◌≤◌}
 use native.Mathlib.Omega.{arith}
-use lib.Dec.{T, ltb, ltb→lt, leb→le, eqb→eq}
-use lib.ListN.{length, take, drop, length-append}
-use lib.Seq.{take_at, drop_at, drop-drop, paste, take-paste, take-length}
+use borrow.Author.Tests.{ltb-true}
+use lib.Dec.{T, ltb, leb→le, eqb, eqb→eq}
+use lib.ListN.{length, get_or, take, drop, length-append}
+use lib.Seq.{take_at, drop_at, drop-drop}
+use Rattle.algebra.proofs.Test.{and_left, and_right, true_holds}
 use Rattle.parameters.specs.declared.Params.{Params}
 use Rattle.parameters.specs.Sets.{set_of}
 use Rattle.parameters.specs.Sound.{Sound, Fitting}
-use Rattle.parameters.proofs.Sound.{set_sound, set_fitting}
-use Rattle.transform.specs.Generator.{generator_of, GeneratorTable}
-use Rattle.transform.proofs.Tables.{arm_size}
+use Rattle.transform.specs.Generator.{generator_of, GeneratorTable, is_generator_table}
+use Rattle.transform.proofs.GeneratorLaws.{generator_table}
 use Rattle.split_tables.specs.Split.{shape_of, split_from, root_at, SplitTables, SplitTable}
-use Rattle.split_tables.specs.Test.{split_tests, is_split}
+use Rattle.split_tables.specs.Test.{split_tests, is_split, has_split}
 use Rattle.split_tables.proofs.TestLaws.{each, twists_of_test, rows_of_test}
 
--- ---- a table that passes the test, behind the generator's powers
+-- a list is its first n numbers and the rest
+front_and_rest : (n : ℕ) (t : List ℕ) → t ≡ take n t ++ drop n t
+front_and_rest zero t = refl
+front_and_rest (suc n) [] = refl
+front_and_rest (suc n) (x ∷ t) = ap (λ (l : List ℕ). x ∷ l) (front_and_rest n t)
+
 module _ (p : Params) (base : ℕ) (order table : List ℕ) where
+  -- twists and rows that pass the test, behind the generator's powers
   tables_of_test : Sound p → Fitting p → GeneratorTable base p.n order → T (is_split p base table)
       → SplitTables p order (take (shape_of p.n).k table) (drop (shape_of p.n).k table)
   unfolding split_tests
@@ -37,7 +45,7 @@ module _ (p : Params) (base : ℕ) (order table : List ℕ) where
       }
 
   -- the three one after the other
-  pub joined_tables : {t : List ℕ} → GeneratorTable base p.n order → length table ≡ 2 * (p.n - 1) → t ≡ order ++ table
+  joined_tables : {t : List ℕ} → GeneratorTable base p.n order → length table ≡ 2 * (p.n - 1) → t ≡ order ++ table
       → (split_from ≤ p.q → SplitTables p order (take (shape_of p.n).k table) (drop (shape_of p.n).k table)) → SplitTable p t
   joined_tables {t} g second e tables =
       let first = g.size in
@@ -50,43 +58,33 @@ module _ (p : Params) (base : ℕ) (order table : List ℕ) where
         parts = λ h. rw (front, behind, sym (drop-drop k (p.n - 1) t), behind) (tables h);
       }
 
--- ---- the arms of the match on a set: s is the number j of the arm, `last` its N - 1, r what was put behind the generator's powers
-module _ (j : ℕ) {s last : ℕ} (is : s ≡ j) (count : last ≡ (set_of s).n - 1) where
-  abbrev Ordered : List ℕ → ℕ → Type 0
-  Ordered first x = GeneratorTable (generator_of x) (set_of x).n (take ((set_of x).n - 1) first)
+  by_test : Sound p → Fitting p → GeneratorTable base p.n order → {t : List ℕ} → t ≡ order ++ table
+      → (b : Bool) → ltb p.q split_from ≡ b → T (cond b (eqb (length table) (2 * (p.n - 1))) (is_split p base table)) → SplitTable p t
+  unfolding split_tests
+  by_test sound fitting g e true is h =
+      joined_tables g (eqb→eq (length table) (2 * (p.n - 1)) h) e (λ f. let l = ltb-true p.q split_from is in absurd (omega arith))
+  by_test sound fitting g e false is h =
+      joined_tables g (eqb→eq (length table) (2 * (p.n - 1)) (each (split_tests p base table) h 2 tt)) e (λ f. tables_of_test sound fitting g h)
 
-  module _ (first table : List ℕ) {r : List ℕ} (ordered : Ordered first s) (room : 3 * last ≤ length first) (e : r ≡ paste first last table (2 * last)) where
-    abbrev Answer : ℕ → Type 0
-    Answer x = SplitTable (set_of x) (take (3 * ((set_of x).n - 1)) r)
+-- what a ring's test gives
+pub split_table : (p : Params) → Sound p → Fitting p → (t : List ℕ) → has_split p t ≡ true → SplitTable p t
+unfolding has_split
+split_table p sound fitting t e =
+    let h = true_holds e in
+    let order = take (p.n - 1) t in
+    let table = drop (p.n - 1) t in
+    let base = get_or t 1 0 in
+    let rest = cond (ltb p.q split_from) (eqb (length table) (2 * (p.n - 1))) (is_split p base table) in
+    by_test p base order table sound fitting (generator_table base p.n order (and_left (is_generator_table base p.n order) rest h)) (front_and_rest (p.n - 1) t)
+    (ltb p.q split_from) refl (and_right (is_generator_table base p.n order) rest h)
 
-    -- the generator's powers, and the table behind them
-    front : length table ≡ 2 * ((set_of j).n - 1) → take (3 * ((set_of j).n - 1)) r ≡ take ((set_of j).n - 1) first ++ table
-    front size =
-        let of-arm = arm_size j is count in
-        let three : 3 * ((set_of j).n - 1) ≡ last + 2 * last = omega (arith, of-arm) in
-        let whole : 2 * last ≡ length table = omega (arith, of-arm) in
-        ap₂ (λ (m : ℕ) (l : List ℕ). take m l) three e
-        ∙ take-paste first last table (2 * last) (omega arith) (omega arith)
-        ∙ ap₂ (λ (m k : ℕ). take m first ++ take k table) of-arm whole
-        ∙ ap (λ (l : List ℕ). take ((set_of j).n - 1) first ++ l) (take-length table)
+-- ---- an arm of the match on a set: s is the number k of the arm
+module _ (k : ℕ) {s : ℕ} (is : s ≡ k) (t : List ℕ) where
+  pub arm_passes : has_split (set_of k) t ≡ true → has_split (set_of s) t ≡ true
+  arm_passes e = subst (λ (x : ℕ). has_split (set_of x) t ≡ true) (sym is) e
 
-    -- a set with a split
-    pub arm : s < 5 → T (is_split (set_of j) (generator_of j) table) → Answer s
-    unfolding split_tests
-    arm known t =
-        let p = set_of j in
-        let order = take (p.n - 1) first in
-        let size = eqb→eq (length table) (2 * (p.n - 1)) (each (split_tests p (generator_of j) table) t 2 tt) in
-        let g = subst (Ordered first) is ordered in
-        let below : j < 5 = subst (λ (x : ℕ). x < 5) is known in
-        subst Answer (sym is)
-        (joined_tables p (generator_of j) order table g size (front size)
-        (λ h. tables_of_test p (generator_of j) order table (set_sound j below) (set_fitting j below) g t))
-
-    -- a set without one
-    pub arm_without : T (ltb (set_of j).q split_from) → length table ≡ 2 * ((set_of j).n - 1) → Answer s
-    arm_without t size =
-        let p = set_of j in
-        let small = ltb→lt p.q split_from t in
-        subst Answer (sym is)
-        (joined_tables p (generator_of j) (take (p.n - 1) first) table (subst (Ordered first) is ordered) size (front size) (λ h. absurd (omega arith)))
+  pub arm_least : T (is_generator_table (generator_of k) (set_of k).n (take ((set_of k).n - 1) t))
+      → GeneratorTable (generator_of s) (set_of s).n (take ((set_of s).n - 1) t)
+  arm_least h =
+      subst (λ (x : ℕ). GeneratorTable (generator_of x) (set_of x).n (take ((set_of x).n - 1) t)) (sym is)
+      (generator_table (generator_of k) (set_of k).n (take ((set_of k).n - 1) t) h)

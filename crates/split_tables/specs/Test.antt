@@ -4,6 +4,7 @@ use Rattle.std.specs.Prelude.{Bool, true, ◌&&◌, cond, List, [], ◌∷◌, m
 use Rattle.algebra.specs.All.{all, are_below}
 use Rattle.parameters.specs.declared.Params.{Params}
 use Rattle.parameters.specs.Sound.{hold}
+use Rattle.transform.specs.Generator.{is_generator_table}
 use Rattle.transform.specs.UpFrom.{up_from}
 use Rattle.split_tables.specs.Split.{shape_of, split_from, twist_at, root_at, third_at, width}
 
@@ -84,3 +85,9 @@ split_tests p base t =
 -- the one test of them all
 abbrev pub is_split : Params → ℕ → List ℕ → Bool
 is_split p base t = hold (split_tests p base t)
+
+-- ---- a set's whole table: the powers of a generator, its number 1, then twists and rows, or as many numbers where a set has no split
+unfoldable pub has_split : Params → List ℕ → Bool
+has_split p t =
+    is_generator_table (get_or t 1 0) p.n (take (p.n - 1) t)
+    && cond (ltb p.q split_from) (eqb (length (drop (p.n - 1) t)) (2 * (p.n - 1))) (is_split p (get_or t 1 0) (drop (p.n - 1) t))

@@ -1,18 +1,28 @@
-// The tables of fast evaluation, for each parameter set.
+// A parameter set with its tables: the set as a value, and the tables of fast evaluation.
 #![tactic(auto)]
 
-ghost use Rattle.std.specs.Prelude.{◌≡◌, true, ◌-◌, ◌*◌, ◌<◌, ◌≤◌, length, take};
-ghost use Rattle.parameters.specs.Sets.{is_set, set_of};
-ghost use Rattle.split_tables.specs.Split.{shape_of, SplitTable};
-ghost use Rattle.split_tables.specs.LookedUp.{LookedUp};
+ghost use Rattle.std.specs.Prelude.{◌≡◌, true, length};
+ghost use Rattle.parameters.specs.Ring.{Usable};
+ghost use Rattle.split_tables.specs.Split.{shape_of};
+ghost use Rattle.split_tables.specs.Test.{has_split};
 
-use parameters::{MAX_N, Params, params_of, put, put_powers};
-use transform::generator::put_generator_powers;
+use parameters::Params;
 
-mod tables;
+mod making;
+mod splits;
 
-// The numbers of the largest table, 3 (N - 1).
-pub const SPLIT_ROOM: usize = 3456;
+// A set's numbers, the powers of its g, and the tables of its split: 3 (N - 1) numbers, the powers of a generator modulo N, the twists and the rows. The
+// tables are lent and read where they stand, so a ring is small and is copied. A ring can be made only of tables that pass the tests, so no function that takes one
+// has to ask anything of them.
+#[derive(Clone, Copy)]
+pub struct Ring<'a> {
+    pub params: Params,
+    pub powers: &'a [u32],
+    pub split: &'a [u32],
+    pub ghost usable: { Usable params powers.now },
+    pub ghost size: { length powers.now ≡ params.n },
+    pub ghost tables: { has_split params split.now ≡ true },
+}
 
 // How N - 1 is split: K roots of unity, blocks of L, and the parts that the first level cuts.
 #[derive(Drop)]
@@ -22,7 +32,7 @@ pub struct Shape {
     pub start: usize,
 }
 
-// The split of an N.
+// The split of an N. The last arm is that of N = 1153; a set whose q is too small for a split does not ask for its shape.
 pub fn shape_of(n: usize) -> Shape
     ensures { result ≡ shape_of n }
 {
@@ -48,32 +58,4 @@ pub fn shape_of(n: usize) -> Shape
             start: 3,
         },
     }
-}
-
-// Puts the tables of a set's split at the front of a slice, as `put_powers` of `parameters` does: the powers of the least generator, the twists,
-// the rows; `last` is N - 1.
-fn put_split(set: u8, last: usize, out: &mut [u32])
-    requires { (set < 5) × (last ≡ (set_of set).n - 1) × (3 * last ≤ length out.old) }
-    ensures { SplitTable (set_of set) (take (3 * ((set_of set).n - 1)) out.new) }
-{
-    put_generator_powers(set, last, out);
-    let rest = 2 * last;
-    match set {
-        0 => put(out, last, &tables::SPLIT_0, rest),
-        1 => put(out, last, &tables::SPLIT_1, rest),
-        2 => put(out, last, &tables::SPLIT_2, rest),
-        3 => put(out, last, &tables::SPLIT_3, rest),
-        _ => put(out, last, &tables::SPLIT_4, rest),
-    }
-}
-
-// What an entry looks up once: a set's numbers, the powers of its g and the tables of its split, at the front of two arrays.
-pub fn look_up(set: u8, powers: &mut [u32; MAX_N], split: &mut [u32; SPLIT_ROOM]) -> Params
-    requires { is_set set ≡ true }
-    ensures { LookedUp set result powers.new split.new }
-{
-    let p = params_of(set);
-    put_powers(set, p.n, powers);
-    put_split(set, p.n - 1, split);
-    p
 }

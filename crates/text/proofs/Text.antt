@@ -1,7 +1,7 @@
 -- Text of numbers and bytes: by the tests that the code makes, how long it is, and that it has no space and no line feed inside a field.
 -- Assumes nothing.
 use mathlib.Core.Path.{◌≡◌, refl}
-use mathlib.Core.Bool.{Bool, true}
+use mathlib.Core.Bool.{Bool, true, false}
 use mathlib.Core.List.{List, [], ◌∷◌, ◌++◌, append_assoc, append-nil}
 use Prim.Native.Nat.{ℕ, zero, suc, ◌+◌, ◌-◌, ◌*◌, ◌^◌, ◌/◌, ◌%◌, ◌≤◌, ◌<◌}
 use native.Mathlib.Nat.{div-lt_iff_lt-mul, pow-suc, zero-lt-suc}
@@ -9,7 +9,8 @@ use native.Mathlib.Omega.{arith}
 use lib.Dec.{T, ltb, leb, ltb→lt, lt→ltb, leb→le}
 use lib.IntN.{ℤ, pos, negsuc, nat_abs}
 use lib.ListN.{length, length-append}
-use borrow.Author.Tests.{lt-ltb, le-ltb}
+use lib.Signed.{lt_z}
+use borrow.Author.Tests.{lt-ltb, le-ltb, ltb-true}
 use Rattle.algebra.specs.All.{all}
 use Rattle.algebra.specs.Integer.{within}
 use Rattle.algebra.proofs.All.{all-append, all_weaker}
@@ -50,6 +51,15 @@ integer_natural n h = digits_enough 9 19 n (omega arith) h
 pub integer_negative : (n : ℕ) → suc n < 10 ^ 10 → signed_decimal (negsuc n) ≡ minus_sign ∷ digits 9 (suc n)
 unfolding signed_decimal
 integer_negative n h = rw (digits_enough 9 19 (suc n) (omega arith) h)
+
+-- the same by the sign that the code tests
+pub text_natural : (e : ℤ) → nat_abs e < 10 ^ 10 → lt_z e (pos 0) ≡ false → signed_decimal e ≡ digits 9 (nat_abs e)
+text_natural (pos n) h t = integer_natural n h
+text_natural (negsuc n) h t = cc
+
+pub text_negative : (e : ℤ) → nat_abs e < 10 ^ 10 → lt_z e (pos 0) ≡ true → signed_decimal e ≡ minus_sign ∷ digits 9 (nat_abs e)
+text_negative (pos n) h t = absurd (omega (arith, ltb-true))
+text_negative (negsuc n) h t = integer_negative n h
 
 -- ---- the texts of lists
 

@@ -1,14 +1,16 @@
 // Appenders of text: each stores from a place on in a lent buffer, and gives the place behind what it wrote.
+// A struct of the buffer and the place would owe one clause more at each of them, that it still holds the same loan, and is no plainer so. No `Display`: each byte of a row is
+// promised, and a formatter's contract does not say them.
 #![tactic(auto)]
 
 ghost use Rattle.std.specs.Prelude.{◌≡◌, [], ◌∷◌, ◌+◌, ◌*◌, ◌^◌, ◌<◌, ◌≤◌, nat_abs, length};
 ghost use Rattle.text.specs.Text.{digits, decimal, signed_decimal, hex_digit, hex, spaced, Appended};
 
-pub const SPACE: u8 = 32;
+pub const SPACE: u8 = b' ';
 
-pub const MINUS: u8 = 45;
+pub const MINUS: u8 = b'-';
 
-pub const LINE_FEED: u8 = 10;
+pub const LINE_FEED: u8 = b'\n';
 
 pub fn put(out: &mut [u8], at: usize, byte: u8) -> usize
     requires { at < length out.old }
@@ -24,11 +26,8 @@ pub fn put_digits(out: &mut [u8], at: usize, n: usize, more: usize) -> usize
     ensures text { Appended out.old at (digits more n) out.new result }
     ensures end { result ≤ at + more + 1 }
 {
-    let last = (48 + n % 10) as u8;
-    if more == 0 {
-        return put(out, at, last);
-    }
-    if n < 10 {
+    let last = b'0' + (n % 10) as u8;
+    if more == 0 || n < 10 {
         return put(out, at, last);
     }
     let next = put_digits(out, at, n / 10, more - 1);
@@ -45,16 +44,6 @@ pub fn put_number(out: &mut [u8], at: usize, n: u32) -> usize
     put_digits(out, next, n as usize, 9)
 }
 
-fn magnitude(e: i64) -> usize
-    ensures { result ≡ nat_abs e }
-{
-    if e < 0 {
-        ((-1 - e) as usize) + 1
-    } else {
-        e as usize
-    }
-}
-
 // A space and an integer. Below 2 to the 33 its absolute value has at most ten digits.
 pub fn put_integer(out: &mut [u8], at: usize, e: i64) -> usize
     requires { (at + 12 ≤ length out.old) × (nat_abs e < 2 ^ 33) }
@@ -64,16 +53,16 @@ pub fn put_integer(out: &mut [u8], at: usize, e: i64) -> usize
     let next = put(out, at, SPACE);
     if e < 0 {
         let digits = put(out, next, MINUS);
-        return put_digits(out, digits, magnitude(e), 9);
+        return put_digits(out, digits, e.unsigned_abs() as usize, 9);
     }
-    put_digits(out, next, magnitude(e), 9)
+    put_digits(out, next, e.unsigned_abs() as usize, 9)
 }
 
 pub fn hex_digit(n: u8) -> u8
     requires { n < 16 }
     ensures { result ≡ hex_digit n }
 {
-    if n < 10 { 48 + n } else { 55 + n }
+    if n < 10 { b'0' + n } else { b'A' + (n - 10) }
 }
 
 pub fn put_hex_byte(out: &mut [u8], at: usize, byte: u8) -> usize
@@ -93,10 +82,8 @@ pub fn put_hex(out: &mut [u8], at: usize, bytes: &[u8]) -> usize
     ensures end { result ≤ at + 2 * length bytes.now }
 {
     let mut next = at;
-    let mut i: usize = 0;
-    while i < bytes.len() {
-        next = put_hex_byte(out, next, bytes[i]);
-        i += 1;
+    for byte in bytes {
+        next = put_hex_byte(out, next, *byte);
     }
     next
 }

@@ -3,7 +3,6 @@ pub mod Permutation
 pub mod GeneratorLaws
 pub mod ReorderedSum
 pub mod Rader
-pub mod Tables
 pub mod FiveSets
 pub mod ConvolutionLaws
 pub mod Placing

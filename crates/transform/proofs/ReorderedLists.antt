@@ -1,7 +1,7 @@
 -- The lists that the code convolves, the coefficients' residues and the powers of g in the order of a table: their entries, which are below q and modulo q
 -- those of the reordering.
 -- Assumes nothing.
-use mathlib.Core.Path.{◌≡◌, ap, ◌∙◌}
+use mathlib.Core.Path.{◌≡◌, sym, ap, ◌∙◌}
 use mathlib.Core.List.{List}
 use Prim.Native.Nat.{ℕ, ◌-◌, ◌^◌, ◌%◌, ◌<◌}
 use native.Mathlib.Nat.{mod-lt}
@@ -18,11 +18,12 @@ use Rattle.parameters.specs.Ring.{Usable}
 use Rattle.polynomial.specs.Polynomial.{coefficient}
 use Rattle.transform.specs.Prime.{Prime}
 use Rattle.transform.specs.Generator.{GeneratorTable}
-use Rattle.transform.specs.Convolution.{entry}
+use Rattle.transform.specs.Convolution.{entry, convolution}
 use Rattle.transform.specs.Reordering.{reordered_coefficients, reordered_powers}
-use Rattle.transform.specs.Asks.{residues_backwards, powers_in_order}
+use Rattle.transform.specs.Asks.{TableOf, Convolvable, residues_backwards, powers_in_order}
 use Rattle.transform.proofs.UpFrom.{map_at, up_map-length, up_map-all, from_zero_at}
 use Rattle.transform.proofs.GeneratorLaws.{table_power, table_generator}
+use Rattle.transform.proofs.ConvolutionLaws.{convolution-length}
 use Rattle.transform.proofs.ReorderedSum.{r_round}
 
 -- ---- the residues
@@ -88,3 +89,20 @@ module _ {p : Params} {r : ℕ} {t powers : List ℕ} (usable : Usable p powers)
   powers_below =
       all_from (λ (v : ℕ). ltb v p.q) (powers_in_order powers t) 0
       (λ i l. lt→ltb _ p.q (omega (arith, power_is i (omega (arith, g.size, powers-length powers t)), mod-lt (p.g ^ (r ^ i % p.n)) positive)))
+
+-- both lists may be convolved
+pub convolvable : {p : Params} {t powers : List ℕ} → Usable p powers → Prime p.n → TableOf p.n t → (f : List ℤ)
+    → Convolvable p.q (residues_backwards p.q f t) (powers_in_order powers t)
+convolvable {p} {t} {powers} usable prime order f =
+    let positive : 0 < p.q = omega (arith, usable.sound.modulus) in
+    record {
+      size = powers-length powers t ∙ sym (backwards_length p.q f t);
+      room = omega (arith, backwards_length p.q f t, prime.above, order.table.size, usable.fitting.size);
+      positive = positive;
+      modulus = usable.fitting.modulus;
+      first = backwards_below p.q f t positive;
+      second = powers_below usable prime order.table;
+    }
+
+pub values-length : (q : ℕ) (f : List ℤ) (t powers : List ℕ) → length (convolution q (residues_backwards q f t) (powers_in_order powers t)) ≡ length t
+values-length q f t powers = convolution-length q _ _ ∙ backwards_length q f t

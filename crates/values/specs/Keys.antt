@@ -24,9 +24,6 @@ public_key_refusal key exponents out = in_set_of key (λ (p : Params). public_ke
 unfoldable pub public_key_in : Params → List ℕ → List ℕ → List ℕ
 public_key_in p key exponents = public_key (set_byte key) exponents (evaluation_residues p (key_of key) exponents)
 
--- the buffer after it, in one set and of the entry
-unfoldable pub public_key_written_in : Params → List ℕ → List ℕ → List ℕ → List ℕ
-public_key_written_in p key exponents out = unless_refused (public_key_refusal_in p key exponents (length out)) (public_key_in p key exponents) out
-
+-- the buffer after it
 unfoldable pub public_key_written : List ℕ → List ℕ → List ℕ → List ℕ
 public_key_written key exponents out = unless_refused (public_key_refusal key exponents out) (public_key_in (set_in key) key exponents) out

@@ -6,8 +6,8 @@ use Rattle.parameters.specs.Sets.{sets, set_of}
 use Rattle.polynomial.specs.Evaluation.{evaluation, evaluation_residue, evaluations, evaluation_residues}
 use Rattle.challenge.specs.Pool.{low_byte_rule}
 use Rattle.encoding.specs.Encoding.{key_of, public_key}
-use Rattle.refusal.specs.declared.Signing.TheVariants as signing
-use Rattle.refusal.specs.declared.Verdict.TheVariants as answer
+use Rattle.refusal.specs.Signing as signing
+use Rattle.refusal.specs.Verdict as answer
 use Rattle.signing.specs.Sign.{sign_answer, sign_written}
 use Rattle.checking.specs.Check.{check_answer}
 use Rattle.worked_session.specs.WorkedSession.{key, exponents, signed_values, values, masks, message, room, signature}

@@ -14,8 +14,8 @@ use Rattle.challenge.specs.Draw.{draw_challenge}
 use Rattle.encoding.specs.Bytes.{big_endian, numbers, encoded}
 use Rattle.encoding.specs.Encoding.{is_key, key_of, public_key, signature_bytes, exponents_of, evaluations_of}
 use Rattle.scheme.specs.Scheme.{attempt, is_drawn, verdict}
-use Rattle.refusal.specs.declared.Signing.TheVariants as signing
-use Rattle.refusal.specs.declared.Verdict.TheVariants as answer
+use Rattle.refusal.specs.Signing as signing
+use Rattle.refusal.specs.Verdict as answer
 use Rattle.signing.specs.Signer.{signature_of, signed_by}
 use Rattle.signing.specs.Sign.{sign_refusal_in, sign_refusal, sign_answer, sign_written}
 use Rattle.checking.specs.Check.{body_read, check_refusal_of, check_refusal_in, check_refusal, check_verdict, verdict_after, check_answer}

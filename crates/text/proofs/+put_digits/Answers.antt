@@ -1,16 +1,15 @@
-use native.Mathlib.Omega.{arith}
+-- `put_digits` writes the last digit behind the others.
+use Rattle.std.proofs.Common.{◌≡◌, [], ◌∷◌, ◌+◌, ◌%◌, inl, inr, arith}
+use Rattle.text.specs.Text.{digits}
 use Rattle.text.proofs.Text.{digits_last, digits_short, digits_long}
 use Rattle.text.proofs.Appending.{appended_then}
 use Rattle.text.proofs.+put_digits.Goals as goal
 
-pub returns-then-more-eq0 : goal.returns-then-more-eq0
-returns-then-more-eq0 t c = record { text = rw (digits_last c.args.more c.args.n c.if-more-eq0.true) c.put.ensures; end = omega arith }
+pub returns-then-more-eq0-clause-text : goal.returns-then-more-eq0-clause-text
+returns-then-more-eq0-clause-text t c = let m = c.args.more in
+    let n = c.args.n in
+    let one : digits m n ≡ (48 + n % 10) ∷ [] = elim c.then-more-eq0.either [ inl e ↦ digits_last m n e | inr s ↦ digits_short m n s.1 ] in
+    rw one c.put.ensures
 
-pub returns-then-n-lt10 : goal.returns-then-n-lt10
-returns-then-n-lt10 t c = record { text = rw (digits_short c.args.more c.args.n c.if-n-lt10.true) c.put-then-n-lt10.ensures; end = omega arith }
-
-pub returns : goal.returns
-returns t c = record {
-  text = rw (digits_long c.args.more c.args.n (omega arith) c.if-n-lt10.false) (appended_then c.put_digits-next.ensures.text c.put-2.ensures);
-  end = omega arith;
-}
+pub returns-clause-text : goal.returns-clause-text
+returns-clause-text t c = rw (digits_long c.args.more c.args.n (omega arith) (omega arith)) (appended_then c.put_digits-next.ensures.text c.put-2.ensures)

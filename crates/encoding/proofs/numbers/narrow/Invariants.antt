@@ -1,11 +1,6 @@
--- `narrow` stores one number a turn, and each has room.
-use Prim.Native.Nat.{◌-◌}
-use lib.ListN.{length}
-use Rattle.algebra.proofs.Filling.{Filled}
+-- The numbers so far are narrowed.
+use Rattle.std.proofs.Common.{◌≡◌, take}
 use Rattle.encoding.proofs.numbers.narrow.Given as goal
 
 abbrev pub invariant-loop-i : goal.invariant-loop-i
-invariant-loop-i l = Filled l.from (length l.from) (length l.initial.to) l.to l.i
-
-abbrev pub decreases-loop-i : goal.decreases-loop-i
-decreases-loop-i l = length l.from - l.i
+invariant-loop-i l = take l.i l.to ≡ take l.i l.from

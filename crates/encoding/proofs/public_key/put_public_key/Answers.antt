@@ -1,37 +1,16 @@
 -- `put_public_key` meets its contract: the set byte, the exponents and the evaluations fill the buffer.
-use mathlib.Core.Path.{ap, ap₂, ◌∙◌}
-use mathlib.Core.List.{List, ◌∷◌, ◌++◌}
-use Prim.Native.Nat.{ℕ, ◌*◌}
-use native.Mathlib.Omega.{arith}
-use lib.ListN.{length, length-set}
+use Rattle.std.proofs.Common.{◌*◌, ◌∙◌, List, ℕ, ◌∷◌, ◌++◌, length, ap, ap₂, arith}
+use Rattle.std.proofs.lemmas.List.{map-id}
+use Rattle.encoding.specs.Bytes.{encoded}
 use Rattle.encoding.specs.Encoding.{public_key}
 use Rattle.encoding.proofs.Writing.{length-encoded}
-use Rattle.encoding.proofs.Buffer.{end_length, whole}
+use Rattle.encoding.proofs.Buffer.{whole}
 use Rattle.encoding.proofs.public_key.put_public_key.Goals as goal
-
-pub slice_bounds-write_numbers16-end : goal.slice_bounds-write_numbers16-end
-slice_bounds-write_numbers16-end c = omega (arith, length-set c.args.out.now 0 c.args.set)
-
-pub slice_bounds-write_numbers24-count : goal.slice_bounds-write_numbers24-count
-slice_bounds-write_numbers24-count c = omega (arith, c.out-1.given.1, length-set c.args.out.now 0 c.args.set)
-
-pub slice_bounds-write_numbers24-start : goal.slice_bounds-write_numbers24-start
-slice_bounds-write_numbers24-start c = slice_bounds-write_numbers24-count c
-
-pub write_numbers24-requires : goal.write_numbers24-requires
-write_numbers24-requires c = let w = c.write_numbers16 in
-    let a = c.args in
-    let size = ap length w.ensures ∙ length-encoded 2 a.exponents.now in
-    end_length a.out.now w.new.out a.set (2 * length a.exponents.now) (3 * length a.evaluations.now) c.requires size
-
-pub shape_of-out : goal.shape_of-out
-shape_of-out c = c.out-2-1.given.1 ∙ c.out-1.given.1 ∙ length-set c.args.out.now 0 c.args.set
 
 pub returns : goal.returns
 unfolding public_key
-returns c = let w = c.write_numbers16 in
-    let v = c.write_numbers24 in
-    let a = c.args in
-    let size = ap length w.ensures ∙ length-encoded 2 a.exponents.now in
-    whole a.out.now w.new.out a.set (2 * length a.exponents.now) (3 * length a.evaluations.now) c.requires size v.new.out
-    ∙ ap₂ (λ (x y : List ℕ). a.set ∷ (x ++ y)) w.ensures v.ensures
+returns c = let a = c.args in
+    let u = c.write_list.ensures ∙ ap (encoded 2) (map-id a.exponents.now) in
+    let v = c.write_list-2.ensures ∙ ap (encoded 3) (map-id a.evaluations.now) in
+    whole a.out.now _ _ a.set (2 * length a.exponents.now) (omega arith) (ap length u ∙ length-encoded 2 a.exponents.now)
+    ∙ ap₂ (λ (x y : List ℕ). a.set ∷ (x ++ y)) u v

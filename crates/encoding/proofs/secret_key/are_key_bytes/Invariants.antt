@@ -1,13 +1,7 @@
--- `are_key_bytes` tests one byte a turn.
-use mathlib.Core.Path.{◌≡◌}
-use Prim.Native.Nat.{◌-◌, ◌≤◌}
-use lib.ListN.{length, take}
-use Rattle.algebra.specs.All.{all}
-use Rattle.encoding.specs.Encoding.{is_key_byte}
+-- The bytes so far are tested.
+use Rattle.std.proofs.Common.{◌≡◌, take}
+use Rattle.encoding.specs.Encoding.{are_key_bytes}
 use Rattle.encoding.proofs.secret_key.are_key_bytes.Given as goal
 
-abbrev pub invariant-loop-i : goal.invariant-loop-i
-invariant-loop-i l = (l.i ≤ length l.bytes) × (l.ok ≡ all is_key_byte (take l.i l.bytes))
-
-abbrev pub decreases-loop-i : goal.decreases-loop-i
-decreases-loop-i l = length l.bytes - l.i
+abbrev pub invariant-loop-byte : goal.invariant-loop-byte
+invariant-loop-byte l = l.ok ≡ are_key_bytes (take l.byte-index l.bytes)

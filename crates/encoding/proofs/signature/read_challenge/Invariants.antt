@@ -1,12 +1,7 @@
--- `read_challenge` writes one coefficient a turn.
-use mathlib.Core.Path.{◌≡◌}
-use Prim.Native.Nat.{◌-◌, ◌≤◌}
-use lib.ListN.{length}
+-- The coefficients below i are written, and k entries are used.
+use Rattle.std.proofs.Common.{◌≤◌, length}
 use Rattle.encoding.proofs.Entries.{Read}
 use Rattle.encoding.proofs.signature.read_challenge.Given as goal
 
 abbrev pub invariant-loop-i : goal.invariant-loop-i
-invariant-loop-i l = (l.k ≤ l.i) × (l.i ≤ length l.initial.c) × (length l.c ≡ length l.initial.c) × Read l.entries (length l.initial.c) l.c l.k l.i
-
-abbrev pub decreases-loop-i : goal.decreases-loop-i
-decreases-loop-i l = length l.initial.c - l.i
+invariant-loop-i l = (l.k ≤ l.i) × Read l.entries (length l.initial.c) l.c l.k l.i

@@ -1,11 +1,7 @@
--- `all_within` meets its contract: after i turns the flag says whether the first i coefficients are in range.
-use Prim.Native.Nat.{◌-◌}
-use lib.ListN.{length}
-use Rattle.polynomial.proofs.RangeLoops.{Tested}
+-- `all_within` meets its contract: the flag says whether the numbers so far are in range.
+use Rattle.std.proofs.Common.{◌≡◌, take}
+use Rattle.algebra.specs.All.{all}
 use Rattle.polynomial.proofs.range.all_within.Given as goal
 
-abbrev pub invariant-loop-i : goal.invariant-loop-i
-invariant-loop-i l = Tested l.bound l.z l.all l.i
-
-abbrev pub decreases-loop-i : goal.decreases-loop-i
-decreases-loop-i l = length l.z - l.i
+abbrev pub invariant-loop-number : goal.invariant-loop-number
+invariant-loop-number g l = l.all ≡ all (g.T.Bounded.is_within l.bound) (take l.number-index l.numbers)

@@ -1,11 +1,10 @@
 -- `first_outside` meets its contract: so far all are passed over.
-use Prim.Native.Nat.{◌-◌}
-use lib.ListN.{length}
+use Rattle.std.proofs.Common.{◌-◌, length}
 use Rattle.polynomial.proofs.RangeLoops.{Passed}
 use Rattle.polynomial.proofs.range.first_outside.Given as goal
 
-abbrev pub invariant-loop-i : goal.invariant-loop-i
-invariant-loop-i l = Passed l.bound l.z l.i
+abbrev pub invariant-loop-start : goal.invariant-loop-start
+invariant-loop-start g l = Passed (g.T.Bounded.is_within l.bound) l.numbers l.start
 
-abbrev pub decreases-loop-i : goal.decreases-loop-i
-decreases-loop-i l = length l.z - l.i
+abbrev pub decreases-loop-start : goal.decreases-loop-start
+decreases-loop-start g l = length l.numbers - l.start

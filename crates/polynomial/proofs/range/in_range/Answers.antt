@@ -1,11 +1,8 @@
 -- `in_range` meets its contract: none is outside exactly where all are in range.
-use mathlib.Core.Path.{ap, ◌∙◌}
-use Prim.Native.Nat.{ℕ}
+use Rattle.std.proofs.Common.{ap, ◌∙◌, ℕ, length}
 use lib.Dec.{eqb}
-use lib.ListN.{length}
-use Rattle.polynomial.proofs.FirstOutside.{first_outside-within}
+use Rattle.polynomial.proofs.FirstOutside.{prefix_len-all}
 use Rattle.polynomial.proofs.range.in_range.Goals as goal
 
 pub returns : goal.returns
-returns c = let a = c.args in
-    ap (λ (i : ℕ). eqb i (length a.z.now)) c.first_outside.ensures ∙ first_outside-within a.bound a.z.now
+returns g c = ap (λ (i : ℕ). eqb i (length c.args.numbers.now)) c.first_outside.ensures ∙ prefix_len-all _ c.args.numbers.now

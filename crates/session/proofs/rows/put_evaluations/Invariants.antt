@@ -1,20 +1,13 @@
--- `put_evaluations` writes one evaluation a turn.
+-- `put_evaluations` has written the first evaluations.
 use mathlib.Core.Path.{◌≡◌}
-use mathlib.Core.List.{List, map}
-use Prim.Native.Nat.{ℕ, ◌+◌, ◌-◌, ◌*◌, ◌≤◌}
-use lib.IntN.{ℤ}
+use mathlib.Core.List.{map}
+use Prim.Native.Nat.{ℕ, ◌+◌, ◌*◌, ◌≤◌}
 use lib.ListN.{length, take}
 use Rattle.algebra.specs.Integer.{centre}
 use Rattle.text.specs.Text.{spaced_integers, Appended}
 use Rattle.session.proofs.rows.put_evaluations.Given as goal
 
--- the evaluations in signed form
-abbrev pub signed : List ℕ → ℕ → List ℤ
-signed vs q = map (λ (v : ℕ). centre v q) vs
-
-abbrev pub invariant-loop-i : goal.invariant-loop-i
-invariant-loop-i l = (l.i ≤ length l.evaluations) × (l.next ≤ l.at + 12 * l.i) × (length l.rows ≡ length l.initial.rows)
-    × Appended l.initial.rows l.at (spaced_integers (take l.i (signed l.evaluations l.q))) l.rows l.next
-
-abbrev pub decreases-loop-i : goal.decreases-loop-i
-decreases-loop-i l = length l.evaluations - l.i
+abbrev pub invariant-loop-value : goal.invariant-loop-value
+invariant-loop-value l =
+    (l.next ≤ l.at + 12 * l.value-index) × (length l.rows ≡ length l.initial.rows)
+    × Appended l.initial.rows l.at (spaced_integers (map (λ (v : ℕ). centre v l.q) (take l.value-index l.evaluations))) l.rows l.next

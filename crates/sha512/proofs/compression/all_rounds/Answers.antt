@@ -1,35 +1,21 @@
 -- `all_rounds` does four rounds a turn.
-use Rattle.std.proofs.Common.{◌≡◌, ℕ, zero, suc, ◌+◌, List, get_or, sym, refl, ap, ◌∙◌, add-zero, add-suc, arith, rules}
-use Rattle.sha512.specs.Constants.{round_constants}
-use Rattle.sha512.specs.Compression.{round, rounds, rounds_from}
+use Rattle.std.proofs.Common.{◌≡◌, ◌+◌, ◌*◌, refl, arith}
+use Rattle.sha512.specs.Compression.{rounds}
+use Rattle.sha512.proofs.Steps.{round_more}
 use Rattle.sha512.proofs.compression.all_rounds.Goals as goal
 
--- t rounds, then n more
-rounds_more : (t n : ℕ) (w s : List ℕ) → rounds (t + n) w s ≡ rounds_from t n w (rounds t w s)
-unfolding rounds rounds_from
-rounds_more t zero w s = rw add-zero
-rounds_more t (suc n) w s = rw add-suc (ap (round (get_or round_constants (t + n) 0) (get_or w (t + n) 0)) (rounds_more t n w s))
-
-pub loop-t-preserved : goal.loop-t-preserved
-loop-t-preserved c = let l = c.loop-t in
-    let a = c.args in (
-      omega arith,
-      omega arith,
-      c.four_rounds-next.ensures ∙ ap (rounds_from l.t 4 a.w) l.invariant.2 ∙ sym (rounds_more l.t 4 a.w a.h),
-    )
-
-pub loop-t-init : goal.loop-t-init
+pub loop-turn-init : goal.loop-turn-init
 unfolding rounds
-loop-t-init c = (search rules, refl, refl)
+loop-turn-init c = refl
 
-pub four_rounds-next-requires : goal.four_rounds-next-requires
-unfolding rounds
-four_rounds-next-requires c = record { k_value = search rules; t_bound = omega arith }
-
-pub loop-t-smaller : goal.loop-t-smaller
-unfolding rounds
-loop-t-smaller c = omega arith
+pub loop-turn-preserved : goal.loop-turn-preserved
+loop-turn-preserved c = let h = c.args.h in
+    let w = c.args.w.now in
+    let t = 4 * c.loop-turn.turn in
+    let e1 = round_more t (t + 1) w h _ refl c.loop-turn.invariant c.one_round-s1.ensures in
+    let e2 = round_more (t + 1) (t + 2) w h _ (omega arith) e1 c.one_round-s2.ensures in
+    let e3 = round_more (t + 2) (t + 3) w h _ (omega arith) e2 c.one_round-s3.ensures in
+    round_more (t + 3) _ w h _ (omega arith) e3 c.one_round-s.ensures
 
 pub returns : goal.returns
-unfolding rounds
-returns c = let e : c.loop-t.t ≡ 80 = omega arith in rw e at c.loop-t.invariant.2
+returns c = let e : 4 * c.loop-turn.turn ≡ 80 = omega arith in rw e at c.loop-turn.invariant

@@ -1,18 +1,15 @@
 -- `loaded` loads one word of the block a turn.
-use Rattle.std.proofs.Common.{◌≡◌, refl, add-one, arith, rules}
+use Rattle.std.proofs.Common.{◌≡◌, refl, arith, rules}
 use Rattle.sha512.specs.Compression.{words}
-use Rattle.algebra.proofs.List.{grow_to}
+use Rattle.sha512.proofs.Steps.{words_more}
 use Rattle.sha512.proofs.compression.loaded.Goals as goal
-
-pub loop-t-preserved : goal.loop-t-preserved
-unfolding words
-loop-t-preserved c = let l = c.loop-t in
-    (omega arith, search rules, grow_to l.w l.t (omega arith) l.invariant.2 c.word_at.ensures (rw add-one))
 
 pub loop-t-init : goal.loop-t-init
 unfolding words
-loop-t-init c = (search rules, search rules, refl)
+loop-t-init c = (search rules, refl)
+
+pub loop-t-preserved : goal.loop-t-preserved
+loop-t-preserved c = (search rules, words_more _ _ _ (omega arith) c.loop-t.invariant.1 c.word_at.ensures)
 
 pub returns : goal.returns
-unfolding words
-returns c = let e : c.loop-t.t ≡ 16 = omega arith in rw e at c.loop-t.invariant.2
+returns c = let e : c.loop-t.t ≡ 16 = omega arith in rw e at c.loop-t.invariant.1

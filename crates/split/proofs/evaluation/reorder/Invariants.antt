@@ -1,12 +1,9 @@
--- `reorder` meets its contract: one number a turn, from the place that the table gives.
+-- `reorder` meets its contract.
+use mathlib.Core.Path.{◌≡◌}
 use mathlib.Core.List.{map}
-use Prim.Native.Nat.{ℕ, ◌-◌}
-use lib.ListN.{length, get_or}
-use Rattle.algebra.proofs.Filling.{Filled}
+use lib.ListN.{take, get_or}
+use Prim.Native.Nat.{ℕ}
 use Rattle.split.proofs.evaluation.reorder.Given as goal
 
 abbrev pub invariant-loop-i : goal.invariant-loop-i
-invariant-loop-i l = Filled (map (λ (e : ℕ). get_or l.numbers e 0) l.order) (length l.order) (length l.order) l.out l.i
-
-abbrev pub decreases-loop-i : goal.decreases-loop-i
-decreases-loop-i l = length l.order - l.i
+invariant-loop-i l = take l.i l.out ≡ map (λ (e : ℕ). get_or l.numbers e 0) (take l.i l.order)

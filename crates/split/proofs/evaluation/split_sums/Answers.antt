@@ -1,89 +1,45 @@
 -- `split_sums` meets its contract: the three tables are parts of one list.
-use mathlib.Core.Path.{◌≡◌, sym, ap, ◌∙◌}
+use mathlib.Core.Path.{◌≡◌, sym, ap, ap₂, ◌∙◌}
 use mathlib.Core.List.{List}
-use Prim.Native.Nat.{ℕ, ◌+◌, ◌-◌, ◌≤◌}
+use Prim.Native.Nat.{ℕ, ◌-◌, ◌*◌, ◌≤◌}
 use native.Mathlib.Omega.{arith}
-use lib.ListN.{length, take, drop}
-use Rattle.algebra.proofs.List.{to_end}
+use lib.ListN.{take, drop}
+use lib.Seq.{drop-drop}
+use Rattle.split_tables.specs.declared.Ring.{Ring}
 use Rattle.split_tables.specs.declared.Shape.{Shape}
-use Rattle.split_tables.specs.Split.{shape_of}
-use Rattle.split.proofs.SetStages.{staged_of, roots_few, orders_all}
-use Rattle.split.proofs.SetTable.{tables, several, order_size, order_below}
-use Rattle.split.proofs.evaluation.split_sums.Lts as lts
-use Rattle.split.proofs.evaluation.split_sums.Reads as reads
-use Rattle.split.proofs.evaluation.split_sums.Tie as tie
+use Rattle.split_tables.specs.Split.{SplitTables, split_from, shape_of}
+use Rattle.split.proofs.SetStages.{staged_of}
+use Rattle.split.proofs.SetTable.{passed, tables, twists_room, order_below}
 use Rattle.split.proofs.evaluation.split_sums.Goals as goal
 
-abbrev At-Start : Type 0
-At-Start = lts.Start tie.the-claims reads.Pre reads.Post tie.handed_clauses
+-- the three tables as the code cuts them
+parts : (ring : Ring) → split_from ≤ ring.params.q → {shape : Shape} {order behind twists rows : List ℕ} → shape ≡ shape_of ring.params.n
+    → order ≡ take (ring.params.n - 1) ring.split.now → behind ≡ drop (ring.params.n - 1) ring.split.now
+    → twists ≡ take shape.k behind → rows ≡ drop shape.k behind → SplitTables ring.params order twists rows
+parts ring large e order behind twists rows =
+    rw (order, twists, rows, behind, e, drop-drop (shape_of ring.params.n).k (ring.params.n - 1) ring.split.now) (tables ring large)
 
-abbrev At-After-struct_known-2-1 : Type 0
-At-After-struct_known-2-1 = lts.After-struct_known2 tie.the-claims reads.Pre reads.Post tie.handed_clauses
+pub split_at-requires : goal.split_at-requires
+split_at-requires c = omega (arith, (passed c.args.ring.now).size)
 
-abbrev n : (s : At-Start) → ℕ
-n s = s.args.p.n
+pub split_at-requires-2 : goal.split_at-requires-2
+split_at-requires-2 c = rw (c.split_at.ensures.back, c.shape_of-shape.ensures) (twists_room c.args.ring.now c.requires.modulus.0)
 
-abbrev t : (s : At-Start) → List ℕ
-t s = s.args.split.now
+pub invariant_of-stages : goal.invariant_of-stages
+invariant_of-stages c = let ring = c.args.ring.now in
+    let e = c.shape_of-shape.ensures in
+    let cut = c.split_at.ensures in
+    let parts = parts ring c.requires.modulus.0 e cut.front cut.back c.split_at-2.ensures.front c.split_at-2.ensures.back in
+    rw (c.requires.modulus.1, e) record { staged = staged_of ring.usable.sound ring.usable.fitting parts }
 
-size : (s : At-Start) → length (take ((n s) - 1) (t s)) ≡ (n s) - 1
-size s = order_size s.requires.usable.0 s.requires.usable.1 s.requires.usable.2
+pub sum_reordered-requires-clause-lifted_below : goal.sum_reordered-requires-clause-lifted_below
+sum_reordered-requires-clause-lifted_below c = let lifted = c.requires.lifted_len in
+    rw (c.requires.modulus.1, c.split_at.ensures.front) (lifted.1, order_below c.args.ring.now c.requires.modulus.0 _ (omega (arith, lifted.0)))
 
--- the ends of the parts are inside
-inside : (s : At-Start) → {k : ℕ} → k ≡ (shape_of (n s)).k → (n s) - 1 + k ≤ length (t s)
-inside s e = omega (arith, e, roots_few s.requires.usable.0.sound s.requires.usable.0.fitting (tables s.requires.usable.0 s.requires.usable.1 s.requires.usable.2), s.requires.usable.1.size)
-
-small : (s : At-Start) → length (t s) ≤ 3456
-small s = omega (arith, s.requires.usable.1.size, s.requires.usable.0.fitting.size)
-
--- the parts as the code cuts them
-middle : (s : At-Start) → {k : ℕ} → k ≡ (shape_of (n s)).k → take ((n s) - 1 + k - ((n s) - 1)) (drop ((n s) - 1) (t s)) ≡ take (shape_of (n s)).k (drop ((n s) - 1) (t s))
-middle s {k} e = let count : (n s) - 1 + k - ((n s) - 1) ≡ (shape_of (n s)).k = omega (arith, e) in ap (λ (m : ℕ). take m (drop ((n s) - 1) (t s))) count
-
-last_part : (s : At-Start) → {k : ℕ} → k ≡ (shape_of (n s)).k → take (length (t s) - ((n s) - 1 + k)) (drop ((n s) - 1 + k) (t s)) ≡ drop ((n s) - 1 + (shape_of (n s)).k) (t s)
-last_part s {k} e = to_end ((n s) - 1 + k) (t s) ∙ ap (λ (m : ℕ). drop ((n s) - 1 + m) (t s)) e
-
-ends : (c : At-After-struct_known-2-1)
-    → c.args.p.n - 1 + c.shape_of-shape.result.k
-    ≤ length c.args.split.now
-ends c = inside c.before.before.before.before.before.before (ap (λ (r : Shape). r.k) c.shape_of-shape.ensures)
-
-pub sum_reordered-requires : goal.sum_reordered-requires
-sum_reordered-requires c = let e = c.shape_of-shape.ensures in
-    let k = ap (λ (r : Shape). r.k) e in
-    let usable = c.requires.usable.0 in
-    let parts = tables usable c.requires.usable.1 c.requires.usable.2 in
-    rw (middle c.before.before.before.before.before.before.before.before.before.before k, last_part c.before.before.before.before.before.before.before.before.before.before k, e) record { staged = (staged_of usable.sound usable.fitting parts, c.requires.usable.3); lifted_below = (c.requires.lifted_len.1, order_below usable c.requires.usable.1 c.requires.usable.2 _ (omega (arith, c.requires.lifted_len.0))); order_len = (orders_all usable.sound usable.fitting parts, c.requires.lifted_len.2 ∙ sym (size c.before.before.before.before.before.before.before.before.before.before)) }
-
-pub overflow_sub-last : goal.overflow_sub-last
-overflow_sub-last c = omega (arith, several c.requires.usable.0 c.requires.usable.1 c.requires.usable.2)
-
-pub overflow_add-to : goal.overflow_add-to
-overflow_add-to c = record { fits = omega (arith, inside c.before.before.before.before.before.before.before (ap (λ (r : Shape). r.k) c.shape_of-shape.ensures), small c.before.before.before.before.before.before.before) }
-
-pub slice_bounds-sum_reordered-end : goal.slice_bounds-sum_reordered-end
-slice_bounds-sum_reordered-end c = sym (size c.before.before.before.before.before.before.before)
-
-pub offset_bounds-split-last : goal.offset_bounds-split-last
-offset_bounds-split-last c = record { fits = omega (arith, ends c.before, small c.before.before.before.before.before.before.before) }
-
-pub slice_bounds-sum_reordered-end-2 : goal.slice_bounds-sum_reordered-end-2
-slice_bounds-sum_reordered-end-2 c = omega (arith, ends c.before)
-
-pub offset_bounds-split-to : goal.offset_bounds-split-to
-offset_bounds-split-to c = record { fits = omega (arith, ends c.before.before, small c.before.before.before.before.before.before.before.before) }
-
-pub slice_bounds-sum_reordered-count-2 : goal.slice_bounds-sum_reordered-count-2
-slice_bounds-sum_reordered-count-2 c = ends c.before.before
-
-pub slice_bounds-sum_reordered-start-2 : goal.slice_bounds-sum_reordered-start-2
-slice_bounds-sum_reordered-start-2 c = omega (arith, ends c.before.before)
-
-pub shape_of-y : goal.shape_of-y
-shape_of-y c = c.sum_reordered.ensures.size
-
-pub returns : goal.returns
-returns c = let e = c.shape_of-shape.ensures in
-    let k = ap (λ (r : Shape). r.k) e in
-    let call = c.sum_reordered.ensures in
-    record { size = call.size; stages = record { stages = rw (middle c.before.before.before.before.before.before.before.before.before.before.before.before.before k, last_part c.before.before.before.before.before.before.before.before.before.before.before.before.before k, e) at call.stages } }
+pub sum_reordered-requires-clause-order_len : goal.sum_reordered-requires-clause-order_len
+sum_reordered-requires-clause-order_len c = let e = c.shape_of-shape.ensures in
+    let cut = c.split_at.ensures in
+    let parts = parts c.args.ring.now c.requires.modulus.0 e cut.front cut.back c.split_at-2.ensures.front c.split_at-2.ensures.back in (
+      parts.generator.size ∙ sym parts.shape ∙ ap₂ ◌*◌ (sym parts.twisted.size) (sym (ap (λ (s : Shape). s.l) e)),
+      c.requires.lifted_len.2 ∙ sym parts.generator.size,
+    )

@@ -1,13 +1,10 @@
--- `read_centred` meets its contract: one value a turn, at the place of its exponent.
+-- `read_centred` meets its contract.
+use mathlib.Core.Path.{◌≡◌}
 use mathlib.Core.List.{map}
+use lib.ListN.{take, get_or}
 use Prim.Native.Nat.{ℕ, ◌-◌}
-use lib.ListN.{length, get_or}
 use Rattle.algebra.specs.Integer.{centre}
-use Rattle.algebra.proofs.Filling.{Filled}
 use Rattle.split.proofs.reading.read_centred.Given as goal
 
 abbrev pub invariant-loop-i : goal.invariant-loop-i
-invariant-loop-i l = Filled (map (λ (e : ℕ). centre (get_or l.values (e - 1) 0) l.q) l.exponents) (length l.exponents) (length l.exponents) l.out l.i
-
-abbrev pub decreases-loop-i : goal.decreases-loop-i
-decreases-loop-i l = length l.exponents - l.i
+invariant-loop-i l = take l.i l.out ≡ map (λ (e : ℕ). centre (get_or l.values (e - 1) 0) l.q) (take l.i l.exponents)

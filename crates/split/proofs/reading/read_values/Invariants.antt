@@ -1,12 +1,9 @@
--- `read_values` meets its contract: one value a turn, at the place of its exponent.
+-- `read_values` meets its contract.
+use mathlib.Core.Path.{◌≡◌}
 use mathlib.Core.List.{map}
+use lib.ListN.{take, get_or}
 use Prim.Native.Nat.{ℕ, ◌-◌}
-use lib.ListN.{length, get_or}
-use Rattle.algebra.proofs.Filling.{Filled}
 use Rattle.split.proofs.reading.read_values.Given as goal
 
 abbrev pub invariant-loop-i : goal.invariant-loop-i
-invariant-loop-i l = Filled (map (λ (e : ℕ). get_or l.values (e - 1) 0) l.exponents) (length l.exponents) (length l.exponents) l.out l.i
-
-abbrev pub decreases-loop-i : goal.decreases-loop-i
-decreases-loop-i l = length l.exponents - l.i
+invariant-loop-i l = take l.i l.out ≡ map (λ (e : ℕ). get_or l.values (e - 1) 0) (take l.i l.exponents)

@@ -1,5 +1,4 @@
--- `powers_twice` meets its contract: one power a turn, at two places.
-use Prim.Native.Nat.{◌-◌}
+-- `powers_twice` meets its contract.
 use lib.ListN.{length}
 use Rattle.transform.specs.Asks as asks
 use Rattle.split.proofs.SparseLaws.{powers_backwards}
@@ -7,6 +6,3 @@ use Rattle.split.proofs.sparse.powers_twice.Given as goal
 
 abbrev pub invariant-loop-i : goal.invariant-loop-i
 invariant-loop-i l = asks.Twice (length l.order) (powers_backwards l.powers l.order) l.t l.i
-
-abbrev pub decreases-loop-i : goal.decreases-loop-i
-decreases-loop-i l = length l.order - l.i

@@ -1,7 +1,7 @@
 -- `place_values` meets its contract: one value a turn, each at a place of its own.
 use mathlib.Core.Path.{◌≡◌}
 use mathlib.Core.List.{List}
-use Prim.Native.Nat.{ℕ, ◌+◌, ◌-◌, ◌≤◌}
+use Prim.Native.Nat.{ℕ, ◌+◌, ◌≤◌}
 use lib.IntN.{ℤ, pos}
 use lib.ListN.{length, get_or}
 use Rattle.algebra.specs.Integer.{centred}
@@ -13,6 +13,3 @@ value first sums q m = centred (pos (first + get_or sums m 0)) q
 
 abbrev pub invariant-loop-m : goal.invariant-loop-m
 invariant-loop-m l = (l.m ≤ length l.order) × (length l.out ≡ length l.initial.out) × Placed l.order (value l.first l.sums l.q) l.out l.m
-
-abbrev pub decreases-loop-m : goal.decreases-loop-m
-decreases-loop-m l = length l.order - l.m

@@ -16,6 +16,3 @@ value q f t i = residue (coefficient f (get_or t ((length t - i) % length t) 0))
 
 abbrev pub invariant-loop-i : goal.invariant-loop-i
 invariant-loop-i l = Filled (map (value l.q l.coefficients l.order) (up_from 0 (length l.order))) (length l.order) max_n l.out l.i
-
-abbrev pub decreases-loop-i : goal.decreases-loop-i
-decreases-loop-i l = length l.order - l.i

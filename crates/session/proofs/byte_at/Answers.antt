@@ -1,7 +1,0 @@
--- `byte_at` meets its contract: behind the end the list has the default.
-use mathlib.Core.Path.{sym}
-use lib.ListN.{get_or-eq_default}
-use Rattle.session.proofs.byte_at.Goals as goal
-
-pub returns-else-at-file : goal.returns-else-at-file
-returns-else-at-file c = sym (get_or-eq_default c.args.file.now 0 c.if-at-file.false)
