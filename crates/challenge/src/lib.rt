@@ -154,11 +154,14 @@ pub fn draw_from(p: Params, pool: &[u8]) -> Option<[i8; MAX_N]>
             break;
         }
         let v = value_at(pool, m);
-        let index = v % p.n;
-        if v < limit && !marks[index] {
-            marks[index] = true;
-            challenge[index] = sign_at(pool, count);
-            count += 1;
+        // a value that is skipped costs no remainder
+        if v < limit {
+            let index = v % p.n;
+            if !marks[index] {
+                marks[index] = true;
+                challenge[index] = sign_at(pool, count);
+                count += 1;
+            }
         }
     }
     (count == p.b).then_some(challenge)

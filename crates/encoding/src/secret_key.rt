@@ -29,6 +29,16 @@ fn key_coefficient(x: u8) -> i16
     if x == 255 { -1 } else { i16::from(x) }
 }
 
+// Reads a key of any length, into as many numbers.
+pub fn read_key16(body: &[u8], out: &mut [i16])
+    requires { length out.old ≡ length body.now }
+    ensures { out.new ≡ key_in body.now }
+{
+    for i in 0..body.len() {
+        out[i] = key_coefficient(body[i]);
+    }
+}
+
 // Reads a key whose bytes are allowed: each is its coefficient in two's complement.
 pub fn read_key8(body: &[u8], out: &mut [i8])
     requires out_len { length out.old ≡ length body.now }
@@ -48,9 +58,7 @@ pub fn decode_secret_key(p: Params, body: &[u8]) -> [i16; MAX_N]
     ensures { take p.n result ≡ key_in body.now }
 {
     let mut f = [0i16; MAX_N];
-    for i in 0..p.n {
-        f[i] = key_coefficient(body[i]);
-    }
+    read_key16(body, &mut f[..p.n]);
     f
 }
 

@@ -1,7 +1,7 @@
 // The five parameter sets of document 01, the powers of each set's g, and the limits that arrays have room for.
 #![tactic(auto)]
 
-ghost use Rattle.std.specs.Prelude.{◌≡◌, ◌↔◌, true, length, IsSome, IfSome};
+ghost use Rattle.std.specs.Prelude.{◌≡◌, ◌↔◌, ◌≤◌, true, length, IsSome, IfSome};
 ghost use Rattle.parameters.specs.Sets.{is_set, set_of};
 ghost use Rattle.parameters.specs.Ring.{Usable, are_powers};
 
@@ -90,7 +90,9 @@ pub fn params_of(set: u8) -> Params
 {
     let at = set as usize;
     if at < 5 {
-        SETS[at]
+        // lent and read where it lies: `SETS[at]` would build the whole table on the stack first
+        let sets = &SETS;
+        sets[at]
     } else {
         Params {
             n: 0,
@@ -116,13 +118,14 @@ impl Params {
     }
 }
 
-// A set's numbers with the powers of its g, which are lent and read where they stand: what evaluation one point after the other needs.
+// A set's numbers with the powers of its g, which are lent and read where they stand: what evaluation one point after the other needs. What stands behind the N
+// powers is not read.
 #[derive(Clone, Copy)]
 pub struct Powers<'a> {
     pub params: Params,
     pub table: &'a [u32],
     pub ghost usable: { Usable params table.now },
-    pub ghost size: { length table.now ≡ params.n },
+    pub ghost size: { params.n ≤ length table.now },
 }
 
 // The powers of a set's g, read in place where they stand. A `match`: the proof tests each arm's table under its own number.
@@ -139,12 +142,23 @@ fn powers_of(set: u8) -> &'static [u32]
     }
 }
 
-impl Powers<'_> {
+impl<'a> Powers<'a> {
+    // Those of a set's numbers, any that are sound, with a table by the rule: N numbers at least, of which the first N are the powers of its g.
+    pub fn from_table(params: Params, table: &'a [u32]) -> Powers<'a>
+        requires usable { Usable params table.now }
+        requires size { params.n ≤ length table.now }
+        ensures numbers { result.params ≡ params }
+        ensures powers { result.table.now ≡ table.now }
+    {
+        Powers { params, table }
+    }
+
     // Those of a set, where the byte is one.
     #[tactic(auto, using(crate::proofs::Tables::known_powers, crate::proofs::Tables::powers_size))]
     pub fn of(set: u8) -> Option<Powers<'static>>
         ensures known { IsSome result ↔ (is_set set ≡ true) }
         ensures numbers { IfSome result (λ p. p.params ≡ set_of set) }
+        ensures size { IfSome result (λ p. length p.table.now ≡ p.params.n) }
     {
         let params = Params::of(set)?;
         Some(Powers {

@@ -23,6 +23,10 @@ fn read_front(mut input: Stdin, file: &mut [u8]) -> usize
 {
     let mut size = 0;
     for _ in 0..file.len() {
+        // a full buffer asks for no more: a read of no bytes may wait too
+        if size == file.len() {
+            break;
+        }
         match input.read(&mut file[size..]) {
             Ok(0) | Err(_) => break,
             Ok(more) => size += more,

@@ -67,10 +67,10 @@ module _ (file : List ℕ) where
           last = last_more t opened p.turns;
         }
 
-    -- where it wrote a row, fewer plays are to come
-    pub fewer : is_row (play_answer_of r) ≡ true → plays_left file next true < plays_left file s true
-    fewer e =
-        subst (λ (x : Session). plays_left file x true < plays_left file s true) left
+    -- fewer plays are to come, whether it wrote a row or not
+    pub fewer : {wrote : Bool} → is_row (play_answer_of r) ≡ wrote → plays_left file next wrote < plays_left file s true
+    fewer {wrote} e =
+        subst (λ (x : Session). plays_left file x wrote < plays_left file s true) left
         (subst (λ (w : Bool). plays_left file (play s file before).session w < plays_left file s true) (answered ∙ e) (fewer_left s file before size))
 
     -- where it wrote none, the file has been played to its end

@@ -23,14 +23,14 @@ mod signer;
 pub use command::Command;
 
 // The numbers of all masks that may be held, the bytes of a message, and room for the bytes of a signature, as specs/Room.antt gives them.
-const MASK_ROOM: usize = 9224;
+pub const MASK_ROOM: usize = 9224;
 
-const MESSAGE_SIZE: usize = 64;
+pub const MESSAGE_SIZE: usize = 64;
 
 pub const MAX_SIGNATURE: usize = 2435;
 
 // The signatures that a key may give when it is loaded.
-const FIRST_GRANT: u16 = 65535;
+pub const FIRST_GRANT: u16 = 65535;
 
 // The set in force: its byte, and its ring.
 #[derive(Clone, Copy)]

@@ -145,7 +145,10 @@ impl Held {
         ensure(are_key_bytes(operand), Refusal::WrongKey)?;
         let mut list = [0; MAX_T];
         key_evaluations(&ring, operand, &exponents[..p.t], &mut list[..p.t]);
-        self.key[..p.n].copy_from_slice(operand);
+        // into an array of its own first: straight into the field an archive over this crate would ask C for `memmove`
+        let mut key = [0; MAX_N];
+        key[..p.n].copy_from_slice(operand);
+        self.key = key;
         self.left = Some(FIRST_GRANT);
         self.evaluations = Some(list);
         Ok(Added::Values(p.q))

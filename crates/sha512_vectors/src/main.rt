@@ -6,7 +6,6 @@ ghost use Rattle.std.specs.Prelude.{◌≡◌, ◌≤◌, length, true, nat_le, 
 ghost use Rattle.std.specs.List.{list_all};
 
 use sha512::{sha512, sha512_of_two};
-use std::io;
 
 // FIPS 180-4's examples, and where each is parted.
 const EXAMPLES: [(&[u8], usize); 3] = [
@@ -43,35 +42,34 @@ const LENGTHS: [(usize, usize); 18] = [
     (66559, 1000),
 ];
 
-// Prints a digest in hex, and a line feed.
-fn print_digest(rt: &impl Print, digest: &[u8; 64]) -> io::Result<()> {
+// Prints a digest in hex, and a line feed. What cannot be written is passed over, as the player does: the stored output tells what is missing.
+fn print_digest(rt: &impl Print, digest: &[u8; 64]) {
     for byte in digest {
-        print!(rt; "{byte:02x}")?;
+        let _ = print!(rt; "{byte:02x}");
     }
-    println!(rt;)
+    let _ = println!(rt;);
 }
 
 // Prints the digest of a message, whole and parted at `at`.
-fn print_both(rt: &impl Print, message: &[u8], at: usize) -> io::Result<()>
+fn print_both(rt: &impl Print, message: &[u8], at: usize)
     requires { at ≤ length message.now }
 {
-    print_digest(rt, &sha512(message))?;
-    print_digest(rt, &sha512_of_two(&message[..at], &message[at..]))
+    print_digest(rt, &sha512(message));
+    print_digest(rt, &sha512_of_two(&message[..at], &message[at..]));
 }
 
 // Prints both digests of the first bytes of a message, for each length and place to part it at.
-fn print_lengths(rt: &impl Print, message: &[u8], lengths: &[(usize, usize)]) -> io::Result<()>
+fn print_lengths(rt: &impl Print, message: &[u8], lengths: &[(usize, usize)])
     requires { list_all (λ p. nat_le p.1 p.0 && nat_le p.0 (length message.now)) lengths.now ≡ true }
 {
     for (length, at) in lengths {
-        print_both(rt, &message[..*length], *at)?;
+        print_both(rt, &message[..*length], *at);
     }
-    Ok(())
 }
 
-fn main(rt: HostRuntime) -> io::Result<()> {
+fn main(rt: HostRuntime) {
     for (message, at) in EXAMPLES {
-        print_both(&rt, message, at)?;
+        print_both(&rt, message, at);
     }
-    print_lengths(&rt, &[b'a'; MOST], &LENGTHS)
+    print_lengths(&rt, &[b'a'; MOST], &LENGTHS);
 }

@@ -1,2 +1,3 @@
 pub mod TestLaws
 pub mod SetTables
+pub mod Passing

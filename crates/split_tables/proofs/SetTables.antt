@@ -7,7 +7,7 @@ use Prim.Native.Nat.{ℕ, zero, suc, ◌-◌, ◌*◌, ◌≤◌}
 use native.Mathlib.Omega.{arith}
 use borrow.Author.Tests.{ltb-true}
 use lib.Dec.{T, ltb, leb→le, eqb, eqb→eq}
-use lib.ListN.{length, get_or, take, drop, length-append}
+use lib.ListN.{length, take, drop, length-append}
 use lib.Seq.{take_at, drop_at, drop-drop}
 use Rattle.algebra.proofs.Test.{and_left, and_right, true_holds}
 use Rattle.parameters.specs.declared.Params.{Params}
@@ -16,7 +16,7 @@ use Rattle.parameters.specs.Sound.{Sound, Fitting}
 use Rattle.transform.specs.Generator.{generator_of, GeneratorTable, is_generator_table}
 use Rattle.transform.proofs.GeneratorLaws.{generator_table}
 use Rattle.split_tables.specs.Split.{shape_of, split_from, root_at, SplitTables, SplitTable}
-use Rattle.split_tables.specs.Test.{split_tests, is_split, has_split}
+use Rattle.split_tables.specs.Test.{split_tests, is_split, base_of, has_split}
 use Rattle.split_tables.proofs.TestLaws.{each, twists_of_test, rows_of_test}
 
 -- a list is its first n numbers and the rest
@@ -73,7 +73,7 @@ split_table p sound fitting t e =
     let h = true_holds e in
     let order = take (p.n - 1) t in
     let table = drop (p.n - 1) t in
-    let base = get_or t 1 0 in
+    let base = base_of p t in
     let rest = cond (ltb p.q split_from) (eqb (length table) (2 * (p.n - 1))) (is_split p base table) in
     by_test p base order table sound fitting (generator_table base p.n order (and_left (is_generator_table base p.n order) rest h)) (front_and_rest (p.n - 1) t)
     (ltb p.q split_from) refl (and_right (is_generator_table base p.n order) rest h)

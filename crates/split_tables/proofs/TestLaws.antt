@@ -112,7 +112,7 @@ plus_times-length c [] (b ∷ y) = refl
 plus_times-length c (a ∷ t) (b ∷ y) = ap suc (plus_times-length c t y)
 
 module _ (w : ℕ) where
-  combined-length : (cs t : List ℕ) → length (combined w cs t) ≡ w
+  pub combined-length : (cs t : List ℕ) → length (combined w cs t) ≡ w
   unfolding combined
   combined-length [] t = length-replicate w 0
   combined-length (c ∷ cs) t = plus_times-length c t (combined w cs (drop w t)) ∙ combined-length cs (drop w t)
@@ -137,6 +137,12 @@ module _ (w : ℕ) where
       ∙ sym (sum_front (row_term (c ∷ cs) t x) (length cs))
 
 -- ---- an orbit has the powers of g in the generator's order
+pub orbit_next : (r q g b : ℕ) {x : ℕ} → x ≡ g ^ (r ^ b) % q → x ^ r % q ≡ g ^ (r ^ suc b) % q
+orbit_next r q g b e =
+    ap (λ (m : ℕ). m ^ r % q) e
+    ∙ pow_of_mod (g ^ (r ^ b)) q r
+    ∙ ap (λ (m : ℕ). m % q) (pow-pow g (r ^ b) r ∙ ap (λ (m : ℕ). g ^ m) (sym (pow-suc r b)))
+
 orbit_at : (r q g : ℕ) (row : List ℕ) (b : ℕ) {x : ℕ} → x ≡ g ^ (r ^ b) % q → T (is_orbit r q x row) → (i : ℕ) → i < length row
     → get_or row i 0 % q ≡ g ^ (r ^ (b + i)) % q
 unfolding is_orbit
@@ -144,23 +150,16 @@ orbit_at r q g [] b e t i h = absurd (not-suc-le-zero h)
 orbit_at r q g (y ∷ row) b {x} e t zero h =
     eqb→eq (y % q) x (and_left (eqb (y % q) x) (is_orbit r q (x ^ r % q) row) t) ∙ e ∙ ap (λ (m : ℕ). g ^ (r ^ m) % q) (sym (add-zero b))
 orbit_at r q g (y ∷ row) b {x} e t (suc i) h =
-    let next : x ^ r % q ≡ g ^ (r ^ suc b) % q = ap (λ (m : ℕ). m ^ r % q) e ∙ pow_of_mod (g ^ (r ^ b)) q r
-    ∙ ap (λ (m : ℕ). m % q) (pow-pow g (r ^ b) r ∙ ap (λ (m : ℕ). g ^ m) (sym (pow-suc r b))) in
-    orbit_at r q g row (suc b) next (and_right (eqb (y % q) x) (is_orbit r q (x ^ r % q) row) t) i (le_of_suc-le-suc h)
+    orbit_at r q g row (suc b) (orbit_next r q g b e) (and_right (eqb (y % q) x) (is_orbit r q (x ^ r % q) row) t) i (le_of_suc-le-suc h)
     ∙ ap (λ (m : ℕ). g ^ (r ^ m) % q) (suc-add b i ∙ sym (add-suc b i))
 
 -- ---- the rows
-module _ (p : Params) (sound : Sound p) (base k l : ℕ) (root : ℕ → ℕ) (rows : List ℕ) (t : T (hold (row_tests p base k l root rows))) where
-  rule : (e x : ℕ) → e < k → x < width l
-      → residue (sum (λ (s : ℕ). pos (root s ^ e) *ℤ pos (row_at l rows s x)) k) p.q ≡ p.g ^ (base ^ (e * l + x)) % p.q
-  unfolding row_tests
-  rule e x h g =
-      let q = p.q in
-      let positive : 0 < q = omega (arith, sound.modulus) in
+module _ {q : ℕ} (positive : 0 < q) (k l : ℕ) (root : ℕ → ℕ) (rows : List ℕ) where
+  -- number x of the rows combined with powers e of the roots is, modulo q, the sum of the rule
+  pub combined_sum : (e x : ℕ) → x < width l
+      → residue (sum (λ (s : ℕ). pos (root s ^ e) *ℤ pos (row_at l rows s x)) k) q ≡ get_or (combined (width l) (weights q root k e) rows) x 0 % q
+  combined_sum e x g =
       let cs = weights q root k e in
-      let row = combined (width l) cs rows in
-      let first = pow_round p.g q p.n (sound.cyclic ∙ sym (mod-eq_of_lt sound.modulus)) (base ^ (e * l)) in
-      let orbit = below_test (is_combined p base k l root rows) k (each (row_tests p base k l root rows) t 2 tt) e h in
       residue-eq positive
       (sum-cong (λ (s : ℕ). pos (root s ^ e) *ℤ pos (row_at l rows s x)) (row_term (width l) cs rows x) k
       (λ s i.
@@ -170,7 +169,20 @@ module _ (p : Params) (sound : Sound p) (base k l : ℕ) (root : ℕ → ℕ) (r
       (cong_refl (pos (row_at l rows s x)))))
       ∙ ap (λ (m : ℕ). residue (sum (row_term (width l) cs rows x) m) q) (sym (up_map-length (λ (s : ℕ). root s ^ e % q) 0 k))
       ∙ ap (λ (z : ℤ). residue z q) (sym (combined_at (width l) cs rows x g))
-      ∙ orbit_at base q p.g row (e * l) first orbit x (omega (arith, combined-length (width l) cs rows))
+
+-- g to the r to the m, by r to the m modulo N
+pub first_power : {p : Params} → Sound p → (r m : ℕ) → p.g ^ (r ^ m % p.n) % p.q ≡ p.g ^ (r ^ m) % p.q
+first_power {p} sound r m = pow_round p.g p.q p.n (sound.cyclic ∙ sym (mod-eq_of_lt sound.modulus)) (r ^ m)
+
+module _ (p : Params) (sound : Sound p) (base k l : ℕ) (root : ℕ → ℕ) (rows : List ℕ) (t : T (hold (row_tests p base k l root rows))) where
+  rule : (e x : ℕ) → e < k → x < width l
+      → residue (sum (λ (s : ℕ). pos (root s ^ e) *ℤ pos (row_at l rows s x)) k) p.q ≡ p.g ^ (base ^ (e * l + x)) % p.q
+  unfolding row_tests
+  rule e x h g =
+      let cs = weights p.q root k e in
+      let orbit = below_test (is_combined p base k l root rows) k (each (row_tests p base k l root rows) t 2 tt) e h in
+      combined_sum (omega (arith, sound.modulus)) k l root rows e x g
+      ∙ orbit_at base p.q p.g (combined (width l) cs rows) (e * l) (first_power sound base (e * l)) orbit x (omega (arith, combined-length (width l) cs rows))
 
   pub rows_of_test : Rows p base k l root rows
   unfolding row_tests

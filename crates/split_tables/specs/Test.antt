@@ -86,8 +86,12 @@ split_tests p base t =
 abbrev pub is_split : Params → ℕ → List ℕ → Bool
 is_split p base t = hold (split_tests p base t)
 
--- ---- a set's whole table: the powers of a generator, its number 1, then twists and rows, or as many numbers where a set has no split
+-- ---- a set's whole table: the powers of a generator, then twists and rows, or as many numbers where a set has no split
+-- the generator that the tests name: number 1 of the powers, which modulo N is each generator that has them; 1 where they are one number, as for N = 2
+abbrev pub base_of : Params → List ℕ → ℕ
+base_of p t = get_or (take (p.n - 1) t) 1 1
+
 unfoldable pub has_split : Params → List ℕ → Bool
 has_split p t =
-    is_generator_table (get_or t 1 0) p.n (take (p.n - 1) t)
-    && cond (ltb p.q split_from) (eqb (length (drop (p.n - 1) t)) (2 * (p.n - 1))) (is_split p (get_or t 1 0) (drop (p.n - 1) t))
+    is_generator_table (base_of p t) p.n (take (p.n - 1) t)
+    && cond (ltb p.q split_from) (eqb (length (drop (p.n - 1) t)) (2 * (p.n - 1))) (is_split p (base_of p t) (drop (p.n - 1) t))

@@ -1,7 +1,7 @@
 // A parameter set with its tables: the set as a value, and the tables of fast evaluation.
 #![tactic(auto)]
 
-ghost use Rattle.std.specs.Prelude.{◌≡◌, true, length};
+ghost use Rattle.std.specs.Prelude.{◌≡◌, ◌≤◌, true, length};
 ghost use Rattle.parameters.specs.Ring.{Usable};
 ghost use Rattle.split_tables.specs.Split.{shape_of};
 ghost use Rattle.split_tables.specs.Test.{has_split};
@@ -13,14 +13,14 @@ mod splits;
 
 // A set's numbers, the powers of its g, and the tables of its split: 3 (N - 1) numbers, the powers of a generator modulo N, the twists and the rows. The
 // tables are lent and read where they stand, so a ring is small and is copied. A ring can be made only of tables that pass the tests, so no function that takes one
-// has to ask anything of them.
+// has to ask anything of them; and all that are by the rule pass (proofs/Passing.antt).
 #[derive(Clone, Copy)]
 pub struct Ring<'a> {
     pub params: Params,
     pub powers: &'a [u32],
     pub split: &'a [u32],
     pub ghost usable: { Usable params powers.now },
-    pub ghost size: { length powers.now ≡ params.n },
+    pub ghost size: { params.n ≤ length powers.now },
     pub ghost tables: { has_split params split.now ≡ true },
 }
 

@@ -4,7 +4,7 @@ use mathlib.Core.Path.{◌∙◌, ap}
 use native.Mathlib.Omega.{arith}
 use Rattle.challenge.specs.Draw.{drawn_of}
 use Rattle.challenge.proofs.Kept.{held_none, held_above, held_taken, held_more, held_all, sign_stored}
-use Rattle.challenge.proofs.draw_from.Goals.{then-v-limit+then-not-marks-index, else-v-limit, else-v-limit-via-then-v-limit+else-not-marks-index, else-v-limit-via-else-v-limit, else-loop-m-test, then-loop-m-test+then-count-p}
+use Rattle.challenge.proofs.draw_from.Goals.{then-v-limit+then-not-marks-index, then-v-limit+else-not-marks-index, else-v-limit, else-loop-m-test, then-loop-m-test+then-count-p}
 use Rattle.challenge.proofs.draw_from.Goals as goal
 
 pub loop-m-init : goal.loop-m-init
@@ -19,13 +19,9 @@ loop-m-preserved c = let p = c.args.p in
     elim c.if-v-limit.branch [
       | then-v-limit+then-not-marks-index w ↦ rw (w.marks-is, w.challenge-is, w.count-is)
           (omega arith, held_more p bytes l.m h v.result v.ensures (omega arith) (omega arith) w.if-v-limit.true w.if-not-marks-index.true (sign_stored bytes l.count w.sign_at.ensures))
-      | else-v-limit w ↦ rw (w.marks-is, w.challenge-is, w.count-is) (
-        l.invariant.0,
-        elim w.else-v-limit.branch [
-          | else-v-limit-via-then-v-limit+else-not-marks-index w' ↦ held_taken p bytes l.m h v.result v.ensures w'.if-v-limit.true w'.if-not-marks-index.false
-          | else-v-limit-via-else-v-limit w' ↦ held_above p bytes l.m h v.result v.ensures w'.if-v-limit.false
-        ],
-      )
+      | then-v-limit+else-not-marks-index w ↦ rw (w.marks-is, w.challenge-is, w.count-is)
+          (l.invariant.0, held_taken p bytes l.m h v.result v.ensures w.if-v-limit.true w.if-not-marks-index.false)
+      | else-v-limit w ↦ rw (w.marks-is, w.challenge-is, w.count-is) (l.invariant.0, held_above p bytes l.m h v.result v.ensures w.if-v-limit.false)
     ]
 
 pub returns : goal.returns
