@@ -7,12 +7,27 @@ ghost use Rattle.session.specs.WholeFile.{PlayedWhole};
 use session::{Session, play_each};
 use std::io::{Print, Read, Stdin, Stdout};
 
+// Writes a row, or gives up what is left of it at a write that takes nothing or fails. One that a signal interrupts has failed too, as ever in this program:
+// `write_all` would try it again.
+fn print_row(out: &Stdout, row: &[u8]) {
+    let mut size = 0;
+    for _ in 0..row.len() {
+        if size == row.len() {
+            break;
+        }
+        match out.write_some(&row[size..]) {
+            Ok(0) | Err(_) => break,
+            Ok(more) => size += more,
+        }
+    }
+}
+
 // Plays to the end, as `session::play_file` does, and writes each row between the plays. Whether it was written is not told.
 fn play_all(out: Stdout, file: &[u8]) -> Session
     ensures { PlayedWhole file.now result }
 {
     play_each(file, |row| {
-        let _ = out.write_all(row);
+        print_row(&out, row);
     })
 }
 

@@ -42,12 +42,30 @@ const LENGTHS: [(usize, usize); 18] = [
     (66559, 1000),
 ];
 
-// Prints a digest in hex, and a line feed. What cannot be written is passed over, as the player does: the stored output tells what is missing.
+const HEX: [u8; 16] = *b"0123456789abcdef";
+
+// Writes bytes, or gives up what is left of them at a write that takes nothing or fails, as one that a signal interrupts does: nothing ends the program, and
+// the stored output tells what is missing.
+fn put(rt: &impl Print, bytes: &[u8]) {
+    let mut size = 0;
+    for _ in 0..bytes.len() {
+        if size == bytes.len() {
+            break;
+        }
+        match rt.write_some(&bytes[size..]) {
+            Ok(0) | Err(_) => break,
+            Ok(more) => size += more,
+        }
+    }
+}
+
+// Prints a digest in hex, a write for each byte, and a line feed.
 fn print_digest(rt: &impl Print, digest: &[u8; 64]) {
     for byte in digest {
-        let _ = print!(rt; "{byte:02x}");
+        let digits = [HEX[usize::from(*byte / 16)], HEX[usize::from(*byte % 16)]];
+        put(rt, &digits);
     }
-    let _ = println!(rt;);
+    put(rt, b"\n");
 }
 
 // Prints the digest of a message, whole and parted at `at`.
